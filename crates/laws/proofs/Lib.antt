@@ -1,0 +1,5 @@
+pub mod Tests
+pub mod Bits
+pub mod Lists
+pub mod Cut
+pub mod Refusals

@@ -1,0 +1,63 @@
+-- Laws of `refusal`, the number of the first row that is so. Assumes nothing.
+use Prim.Native.Nat.{ℕ, zero, suc, _<_}
+use mathlib.Core.Path.{_≡_, refl, sym}
+use mathlib.Core.Bool.{Bool, true, false, cond, true≢false}
+use mathlib.Core.Logic.{_↔_}
+use mathlib.Core.List.{List, [], _∷_, _++_}
+use native.Mathlib.Omega.{arith}
+use lib.Dec.{eqb}
+use borrow.Author.Tests.{eqb-false}
+use Rattle.mps.specs.Words.{among, any, each, first}
+use Rattle.mps.specs.Refusals.{Rule, _when_, refusal}
+use Rattle.laws.proofs.Tests.{or-parts}
+
+-- The two halves of a row.
+abbrev pub number : Rule → ℕ
+number (n when b) = n
+
+abbrev pub so : Rule → Bool
+so (n when b) = b
+
+-- ---- The first row
+
+pub refusal-stop : {b : Bool} (n : ℕ) (rows : List Rule) → b ≡ true → refusal (n when b ∷ rows) ≡ n
+unfolding refusal
+refusal-stop n rows e = rw e
+
+pub refusal-go : {b : Bool} (n : ℕ) (rows : List Rule) → b ≡ false → refusal (n when b ∷ rows) ≡ refusal rows
+unfolding refusal
+refusal-go n rows e = rw e
+
+-- Two tables of rows, one behind the other, where 0 is no row's number.
+append-step : (n : ℕ) (b : Bool) (x y : ℕ) → eqb 0 n ≡ false → cond b n (first x y) ≡ first (cond b n x) y
+append-step zero true x y e = absurd (true≢false e)
+append-step (suc n) true x y e = refl
+append-step n false x y e = refl
+
+pub refusal-append : (a b : List Rule) → among 0 (each number a) ≡ false → refusal (a ++ b) ≡ first (refusal a) (refusal b)
+unfolding refusal among each
+refusal-append [] b e = refl
+refusal-append (n when c ∷ a) b e =
+    let h = or-parts (eqb 0 n) (among 0 (each number a)) e in
+    rw (refusal-append a b (h .1)) (append-step n c (refusal a) (refusal b) (h .0))
+
+-- ---- "Given exactly when"
+
+-- A number that no row has is not given.
+pub refusal-absent : (n : ℕ) (rows : List Rule) → 0 < n → among n (each number rows) ≡ false → refusal rows ≡ n → ⊥
+unfolding refusal among each
+refusal-absent n [] p a e = omega arith
+refusal-absent n (m when true ∷ rows) p a e = eqb-false n m (or-parts (eqb n m) (among n (each number rows)) a .0) (sym e)
+refusal-absent n (m when false ∷ rows) p a e = refusal-absent n rows p (or-parts (eqb n m) (among n (each number rows)) a .1) e
+
+-- A number that one row has is given exactly when that row is so and none before it is.
+pub given-exactly :
+    (before : List Rule) (n : ℕ) (b : Bool) (after : List Rule) → 0 < n → among n (each number before) ≡ false → among n (each number after) ≡ false
+    → (refusal (before ++ (n when b ∷ after)) ≡ n) ↔ ((any so before ≡ false) × (b ≡ true))
+unfolding refusal among each any
+given-exactly [] n true after p f g = (λ e. (refl, refl), λ h. refl)
+given-exactly [] n false after p f g = (λ e. absurd (refusal-absent n after p g e), λ h. absurd (true≢false (sym (h .1))))
+given-exactly (m when true ∷ before) n b after p f g =
+    (λ e. absurd (eqb-false n m (or-parts (eqb n m) (among n (each number before)) f .0) (sym e)), λ h. absurd (true≢false (h .0)))
+given-exactly (m when false ∷ before) n b after p f g =
+    given-exactly before n b after p (or-parts (eqb n m) (among n (each number before)) f .1) g

@@ -1,0 +1,88 @@
+-- The addresses that a bus sees. Document 01, "Routes and addresses", second paragraph; MPS 4.4.1 to 4.4.3 and Appendix E.
+use Prim.Native.Nat.{ℕ, zero, suc, _+_, _-_}
+use mathlib.Core.Bool.{Bool, cond, not, _||_, _&&_}
+use mathlib.Core.List.{List, [], _∷_, _++_}
+use lib.ListN.{length}
+use lib.Dec.{leb, ltb, eqb}
+use Rattle.mps.specs.Words.{any, head}
+use Rattle.mps.specs.Refusals.{Rule, _when_, refusal}
+use Rattle.mps.specs.Ranges.{inList}
+use Rattle.mps.specs.Layout.{Entry, ofType, busType, mappingType, modifierType, baseEntries, extendedEntries}
+use Rattle.mps.specs.Layout.{spaceKind, spaceBase, spaceLength, subtractiveBit, takesBit, rangeList}
+use Rattle.mps.specs.Rules.{onBus, links, parentsOf, listed, idsOf}
+use Rattle.mps.specs.Judge.{tableRules}
+use Rattle.mps.specs.Answers.{seenOf}
+use Rattle.mps.specs.declared.Seen.{Seen}
+use Rattle.mps.specs.declared.Seen.the-variants.{No, Yes, Undeclared}
+
+-- ---- What one extended entry says of an address of a kind on a bus
+
+-- "a 128 entry of that kind covers it"
+unfoldable pub covers : ℕ → ℕ → ℕ → Entry → Bool
+covers bus kind address e =
+    ofType mappingType e
+    && onBus bus e
+    && eqb (spaceKind e) kind
+    && leb (spaceBase e) address
+    && ltb address (spaceBase e + spaceLength e)
+
+-- "Modifiers touch I/O addresses below 65,536 only": whether a modifier of the bus touches the address.
+unfoldable pub touches : ℕ → ℕ → ℕ → Entry → Bool
+touches bus kind address e = ofType modifierType e && onBus bus e && eqb kind 0 && inList (rangeList e) address
+
+unfoldable pub takesAway : ℕ → ℕ → ℕ → Entry → Bool
+takesAway bus kind address e = touches bus kind address e && takesBit e
+
+unfoldable pub adds : ℕ → ℕ → ℕ → Entry → Bool
+adds bus kind address e = touches bus kind address e && not (takesBit e)
+
+unfoldable pub coversOrAdds : ℕ → ℕ → ℕ → Entry → Bool
+coversOrAdds bus kind address e = covers bus kind address e || adds bus kind address e
+
+-- "any 128 or 130 entry": of any kind, empty ranges and modifiers too.
+unfoldable pub declares : ℕ → Entry → Bool
+declares bus e = (ofType mappingType e || ofType modifierType e) && onBus bus e
+
+unfoldable pub subtractive : ℕ → Entry → Bool
+subtractive bus e = onBus bus e && subtractiveBit e
+
+-- ---- What a bus says: "first that applies"
+
+pub data Say : Type 0 where
+  no yes parent nothing : Say
+
+unfoldable pub says : List Entry → ℕ → ℕ → ℕ → Say
+says xs bus kind address =
+    cond (any (takesAway bus kind address) xs) Say.no
+    (cond (any (coversOrAdds bus kind address) xs) Say.yes
+    (cond (any (subtractive bus) (links xs)) Say.parent
+    (cond (any (declares bus) xs) Say.no Say.nothing)))
+
+-- A bus's own answer, with the links climbed to it, or what its parent answers.
+abbrev pub answer : Say → ℕ → Seen → Seen
+answer Say.no climbed above = No climbed
+answer Say.yes climbed above = Yes climbed
+answer Say.parent climbed above = above
+answer Say.nothing climbed above = Undeclared climbed
+
+-- "the parent's answer, if the bus has the subtractive bit": a climb through the type 129 entries. The falling number is
+-- the listed buses not visited yet; where none is left there is no parent to ask.
+unfoldable pub climb : ℕ → List Entry → ℕ → ℕ → ℕ → ℕ → Seen
+climb zero xs bus kind address climbed = answer (says xs bus kind address) climbed (Undeclared climbed)
+climb (suc left) xs bus kind address climbed =
+    answer (says xs bus kind address) climbed
+    (climb left xs (head bus (parentsOf (links xs) bus)) kind address (climbed + 1))
+
+-- The answer of a table, no link climbed yet. The bus itself is visited, so one bus less is left.
+unfoldable pub seenBy : List ℕ → ℕ → ℕ → ℕ → Seen
+seenBy t bus kind address =
+    climb (length (idsOf busType (baseEntries t)) - 1) (extendedEntries t) bus kind address 0
+
+-- ---- The query: "queries test the table, then 24"
+
+-- 24: "query: bus not listed, address kind over 2"
+unfoldable pub addressRules : List ℕ → ℕ → ℕ → List Rule
+addressRules t bus kind = tableRules t ++ (24 when (not (listed (baseEntries t) bus) || ltb 2 kind) ∷ [])
+
+unfoldable pub seen : List ℕ → ℕ → ℕ → ℕ → Seen
+seen t bus kind address = seenOf (refusal (addressRules t bus kind)) (seenBy t bus kind address)

@@ -1,0 +1,86 @@
+-- The answers as numbers. Document 01: "Where an answer is an enum, a definition gives this paper's number and values for
+-- each of its cases. The promises use this definition." First the refusal's number, 0 where there is none; then the values.
+use Prim.Native.Nat.{ℕ, zero, suc}
+use mathlib.Core.Bool.{cond}
+use mathlib.Core.List.{List, [], _∷_}
+use lib.Dec.{eqb}
+use Rattle.mps.specs.declared.Judged.{Judged}
+use Rattle.mps.specs.declared.Judged.the-variants.{Accepted, Refused as Judged·Refused}
+use Rattle.mps.specs.declared.Held.{Held}
+use Rattle.mps.specs.declared.Held.the-variants.{Default, Table, Refused as Held·Refused}
+use Rattle.mps.specs.declared.Written.{Written}
+use Rattle.mps.specs.declared.Written.the-variants.{Bytes, Refused as Written·Refused}
+use Rattle.mps.specs.declared.Routed.{Routed}
+use Rattle.mps.specs.declared.Routed.the-variants.{Pairs, Refused as Routed·Refused}
+use Rattle.mps.specs.declared.Seen.{Seen}
+use Rattle.mps.specs.declared.Seen.the-variants.{No, Yes, Undeclared, Refused as Seen·Refused}
+use Rattle.mps.specs.declared.Edited.{Edited}
+use Rattle.mps.specs.declared.Edited.the-variants.{Done, Refused as Edited·Refused, Inner}
+use Rattle.mps.specs.declared.Found.{Found}
+use Rattle.mps.specs.declared.Found.the-variants.{Entry, Nothing}
+
+-- ---- From an enum to the paper's numbers
+
+abbrev pub judgedNumbers : Judged → List ℕ
+judgedNumbers Accepted = 0 ∷ []
+judgedNumbers (Judged·Refused n) = n ∷ []
+
+abbrev pub heldNumbers : Held → List ℕ
+heldNumbers (Default number imcr) = 0 ∷ number ∷ imcr ∷ []
+heldNumbers (Table pointer imcr address start end) = 0 ∷ pointer ∷ imcr ∷ address ∷ start ∷ end ∷ []
+heldNumbers (Held·Refused n) = n ∷ []
+
+abbrev pub writtenNumbers : Written → List ℕ
+writtenNumbers (Bytes count) = 0 ∷ count ∷ []
+writtenNumbers (Written·Refused n) = n ∷ []
+
+abbrev pub routedNumbers : Routed → List ℕ
+routedNumbers (Pairs count) = 0 ∷ count ∷ []
+routedNumbers (Routed·Refused n) = n ∷ []
+
+-- no is 0, yes is 1, undeclared is 2; then the links climbed.
+abbrev pub seenNumbers : Seen → List ℕ
+seenNumbers (No links) = 0 ∷ 0 ∷ links ∷ []
+seenNumbers (Yes links) = 0 ∷ 1 ∷ links ∷ []
+seenNumbers (Undeclared links) = 0 ∷ 2 ∷ links ∷ []
+seenNumbers (Seen·Refused n) = n ∷ []
+
+-- "23 .. the inner number is given too"
+abbrev pub editedNumbers : Edited → List ℕ
+editedNumbers Done = 0 ∷ []
+editedNumbers (Edited·Refused n) = n ∷ []
+editedNumbers (Inner n) = 23 ∷ n ∷ []
+
+abbrev pub foundNumbers : Found → List ℕ
+foundNumbers (Entry size) = 0 ∷ size ∷ []
+foundNumbers Nothing = []
+
+-- ---- From a refusal's number, 0 for none, to an enum
+
+abbrev pub judgedOf : ℕ → Judged
+judgedOf zero = Accepted
+judgedOf (suc n) = Judged·Refused (suc n)
+
+abbrev pub heldOf : ℕ → Held → Held
+heldOf zero held = held
+heldOf (suc n) held = Held·Refused (suc n)
+
+abbrev pub writtenOf : ℕ → ℕ → Written
+writtenOf zero count = Bytes count
+writtenOf (suc n) count = Written·Refused (suc n)
+
+abbrev pub routedOf : ℕ → ℕ → Routed
+routedOf zero count = Pairs count
+routedOf (suc n) count = Routed·Refused (suc n)
+
+abbrev pub seenOf : ℕ → Seen → Seen
+seenOf zero seen = seen
+seenOf (suc n) seen = Seen·Refused (suc n)
+
+abbrev pub editedOf : ℕ → ℕ → Edited
+editedOf zero inner = Done
+editedOf (suc n) inner = cond (eqb (suc n) 23) (Inner inner) (Edited·Refused (suc n))
+
+abbrev pub foundOf : ℕ → Found
+foundOf zero = Nothing
+foundOf (suc n) = Entry (suc n)

@@ -1,0 +1,71 @@
+-- The numbers 1 to 18 in their order. Document 01, "Refusal numbers, tested in this order".
+use Prim.Native.Nat.{ℕ}
+use mathlib.Core.Bool.{cond, not}
+use mathlib.Core.List.{List, [], _∷_, _++_}
+use Rattle.mps.specs.Words.{only, flag}
+use Rattle.mps.specs.Refusals.{Rule, _when_, refusal}
+use Rattle.mps.specs.Layout.{baseEntries, extendedEntries, feature1, imcr}
+use Rattle.mps.specs.Answers.{judgedOf, heldOf}
+use Rattle.mps.specs.declared.Judged.{Judged}
+use Rattle.mps.specs.declared.Held.{Held}
+use Rattle.mps.specs.declared.Held.the-variants.{Default, Table}
+use Rattle.mps.specs.Dump.{soundDump}
+use Rattle.mps.specs.Pointer.{noPointer, wrongPointerRevision, wrongFeature, isDefault, pointer, pointerBytes, tableAddress, tableStart, tableEnd, tableIn}
+use Rattle.mps.specs.Table.{headerCut, unsigned, wrongBaseLength, wrongBaseSum, wrongRevision, wrongType, cutOrMiscounted, descendingType, wrongExtended}
+use Rattle.mps.specs.Rules.{wrongProcessors, wrongBuses, wrongIoApics, wrongInterrupts, wrongSpaces}
+
+-- 5 to 18: "A bare table in a lent buffer is judged as one region holding the buffer".
+unfoldable pub tableRules : List ℕ → List Rule
+tableRules t =
+    5 when headerCut t
+    ∷ 6 when unsigned t
+    ∷ 7 when wrongBaseLength t
+    ∷ 8 when wrongBaseSum t
+    ∷ 9 when wrongRevision t
+    ∷ 10 when wrongType t
+    ∷ 11 when cutOrMiscounted t
+    ∷ 12 when descendingType t
+    ∷ 13 when wrongExtended t
+    ∷ 14 when wrongProcessors t
+    ∷ 15 when wrongBuses (baseEntries t)
+    ∷ 16 when wrongIoApics (baseEntries t)
+    ∷ 17 when wrongInterrupts (baseEntries t)
+    ∷ 18 when wrongSpaces (baseEntries t) (extendedEntries t)
+    ∷ []
+
+-- The number that a bare table is refused with, 0 where it is accepted.
+unfoldable pub tableRefusal : List ℕ → ℕ
+tableRefusal t = refusal (tableRules t)
+
+-- 1 to 4.
+unfoldable pub pointerRules : List ℕ → List Rule
+pointerRules d =
+    1 when not (soundDump d)
+    ∷ 2 when noPointer d
+    ∷ 3 when wrongPointerRevision d
+    ∷ 4 when wrongFeature d
+    ∷ []
+
+-- 1 to 18: a default configuration has no table to judge.
+unfoldable pub dumpRules : List ℕ → List Rule
+dumpRules d = pointerRules d ++ only (not (isDefault d)) (tableRules (tableIn d))
+
+-- The number that a dump is refused with, 0 where it is accepted.
+unfoldable pub dumpRefusal : List ℕ → ℕ
+dumpRefusal d = refusal (dumpRules d)
+
+-- ---- What the judge and the dump reader answer
+
+-- The judge's answer of a bare table.
+unfoldable pub judged : List ℕ → Judged
+judged t = judgedOf (tableRefusal t)
+
+-- What the pointer of an accepted dump tells: "default configuration n", or a table.
+unfoldable pub holdsOf : List ℕ → Held
+holdsOf d =
+    cond (isDefault d) (Default (feature1 (pointerBytes d)) (flag (imcr (pointerBytes d))))
+    (Table (pointer d .address) (flag (imcr (pointerBytes d))) (tableAddress d) (tableStart d) (tableEnd d))
+
+-- The dump reader's answer.
+unfoldable pub held : List ℕ → Held
+held d = heldOf (dumpRefusal d) (holdsOf d)

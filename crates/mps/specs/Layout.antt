@@ -1,0 +1,267 @@
+-- Layouts and limits: every offset, width and length of document 01 stands here, and nowhere else in the definitions.
+-- Document 01, "The floating pointer" and "The table"; MPS 4.1 to 4.4. Reserved bits and bytes have no name: they decide nothing.
+use Prim.Native.Nat.{ℕ, _+_, _/_, _%_}
+use mathlib.Core.Bool.{Bool, cond}
+use mathlib.Core.List.{List}
+use lib.ListN.{take}
+use lib.Dec.{eqb}
+use Rattle.mps.specs.Words.{byte, bit, part, cut}
+use Rattle.mps.specs.Numbers.{le}
+
+-- ---- Limits
+
+-- "At most 65,536 bytes in all."
+abbrev pub dumpMost : ℕ
+dumpMost = 65536
+
+-- "the number of regions, 0 to 8"
+abbrev pub regionsMost : ℕ
+regionsMost = 8
+
+-- "Base and extended are each at most 4,096 bytes"
+abbrev pub partMost : ℕ
+partMost = 4096
+
+-- ---- The dump: "Byte 0 is the number of regions"; "nine bytes a region: kind (1), physical base (4), length (4)"
+
+abbrev pub regionCount : List ℕ → ℕ
+regionCount d = byte d 0
+
+abbrev pub rowLength : ℕ
+rowLength = 9
+
+abbrev pub rowKind : List ℕ → ℕ
+rowKind s = byte s 0
+
+abbrev pub rowBase : List ℕ → ℕ
+rowBase s = le 4 s 1
+
+abbrev pub rowSize : List ℕ → ℕ
+rowSize s = le 4 s 5
+
+-- ---- The floating pointer, MPS Table 4-1: sixteen bytes
+
+abbrev pub pointerSize : ℕ
+pointerSize = 16
+
+abbrev pub pointerSignature : List ℕ → List ℕ
+pointerSignature p = take 4 p
+
+abbrev pub pointerTable : List ℕ → ℕ
+pointerTable p = le 4 p 4
+
+abbrev pub pointerParagraphs : List ℕ → ℕ
+pointerParagraphs p = byte p 8
+
+abbrev pub pointerRevision : List ℕ → ℕ
+pointerRevision p = byte p 9
+
+abbrev pub feature1 : List ℕ → ℕ
+feature1 p = byte p 11
+
+-- "feature byte 2 at 12, bit 7 being IMCR"
+abbrev pub imcr : List ℕ → Bool
+imcr p = bit 7 (byte p 12)
+
+-- ---- The header, MPS Table 4-2: 44 bytes
+
+abbrev pub headerSize : ℕ
+headerSize = 44
+
+abbrev pub signature : List ℕ → List ℕ
+signature t = take 4 t
+
+abbrev pub baseLength : List ℕ → ℕ
+baseLength t = le 2 t 4
+
+abbrev pub revision : List ℕ → ℕ
+revision t = byte t 6
+
+-- The place of the byte that brings the base to 0.
+abbrev pub checksumAt : ℕ
+checksumAt = 7
+
+abbrev pub oemId : List ℕ → List ℕ
+oemId t = part 8 16 t
+
+abbrev pub product : List ℕ → List ℕ
+product t = part 16 28 t
+
+abbrev pub oemPointer : List ℕ → ℕ
+oemPointer t = le 4 t 28
+
+abbrev pub oemSize : List ℕ → ℕ
+oemSize t = le 2 t 32
+
+abbrev pub entryCount : List ℕ → ℕ
+entryCount t = le 2 t 34
+
+abbrev pub localApic : List ℕ → ℕ
+localApic t = le 4 t 36
+
+abbrev pub extendedLength : List ℕ → ℕ
+extendedLength t = le 2 t 40
+
+abbrev pub extendedChecksum : List ℕ → ℕ
+extendedChecksum t = byte t 42
+
+abbrev pub reserved43 : List ℕ → ℕ
+reserved43 t = byte t 43
+
+-- ---- The parts of a table
+
+-- "All base bytes", the header's among them.
+abbrev pub baseBytes : List ℕ → List ℕ
+baseBytes t = take (baseLength t) t
+
+-- The base entries' bytes: from the header's end to the base end.
+abbrev pub basePart : List ℕ → List ℕ
+basePart t = part headerSize (baseLength t) t
+
+-- "The extended bytes follow the base".
+abbrev pub extendedEnd : List ℕ → ℕ
+extendedEnd t = baseLength t + extendedLength t
+
+abbrev pub extendedPart : List ℕ → List ℕ
+extendedPart t = part (baseLength t) (extendedEnd t) t
+
+-- ---- Entries, base and extended: "type in byte 0"
+
+abbrev pub Entry : Type 0
+Entry = List ℕ
+
+abbrev pub type : Entry → ℕ
+type e = byte e 0
+
+abbrev pub ofType : ℕ → Entry → Bool
+ofType n e = eqb (type e) n
+
+-- MPS Table 4-3: a processor entry has 20 bytes, every other base entry 8.
+unfoldable pub baseEntryLength : List ℕ → ℕ
+baseEntryLength s = cond (eqb (byte s 0) 0) 20 8
+
+-- "length in byte 1"
+abbrev pub extendedEntryLength : List ℕ → ℕ
+extendedEntryLength s = byte s 1
+
+-- The base entries of a table, in its order.
+unfoldable pub baseEntries : List ℕ → List Entry
+baseEntries t = cut baseEntryLength 0 (basePart t)
+
+-- The extended entries of a table, in its order.
+unfoldable pub extendedEntries : List ℕ → List Entry
+extendedEntries t = cut extendedEntryLength 0 (extendedPart t)
+
+-- ---- Base entries, MPS Tables 4-3, 4-4, 4-7, 4-9, 4-10 and 4-12
+
+abbrev pub processorType : ℕ
+processorType = 0
+
+abbrev pub busType : ℕ
+busType = 1
+
+abbrev pub ioApicType : ℕ
+ioApicType = 2
+
+abbrev pub ioInterruptType : ℕ
+ioInterruptType = 3
+
+abbrev pub localInterruptType : ℕ
+localInterruptType = 4
+
+-- The ID of a processor, a bus or an I/O APIC.
+abbrev pub idOf : Entry → ℕ
+idOf e = byte e 1
+
+-- The version of a processor's or an I/O APIC's APIC.
+abbrev pub version : Entry → ℕ
+version e = byte e 2
+
+-- "flags 3 (bit 0 enabled ..)", of a processor or an I/O APIC.
+abbrev pub enabled : Entry → Bool
+enabled e = bit 0 (byte e 3)
+
+-- ".. bit 1 bootstrap", of a processor.
+abbrev pub bootstrap : Entry → Bool
+bootstrap e = bit 1 (byte e 3)
+
+-- "six-byte name 2", of a bus.
+abbrev pub nameOf : Entry → List ℕ
+nameOf e = part 2 8 e
+
+-- The address of an I/O APIC.
+abbrev pub addressOf : Entry → ℕ
+addressOf e = le 4 e 4
+
+-- The fields of an interrupt entry, I/O or local.
+abbrev pub interruptType : Entry → ℕ
+interruptType e = byte e 1
+
+-- "flags 2 (bits 0-1 polarity, 2-3 trigger ..)"
+abbrev pub polarity : Entry → ℕ
+polarity e = byte e 2 % 4
+
+abbrev pub trigger : Entry → ℕ
+trigger e = byte e 2 / 4 % 4
+
+abbrev pub sourceBus : Entry → ℕ
+sourceBus e = byte e 4
+
+abbrev pub sourceIrq : Entry → ℕ
+sourceIrq e = byte e 5
+
+abbrev pub destination : Entry → ℕ
+destination e = byte e 6
+
+abbrev pub input : Entry → ℕ
+input e = byte e 7
+
+-- "255 names all": a destination, and the ID that no enabled APIC may have.
+abbrev pub everyone : ℕ
+everyone = 255
+
+-- ---- Extended entries, MPS Tables 4-13 to 4-16
+
+abbrev pub mappingType : ℕ
+mappingType = 128
+
+abbrev pub hierarchyType : ℕ
+hierarchyType = 129
+
+abbrev pub modifierType : ℕ
+modifierType = 130
+
+-- The lengths of Table 4-13; any other type has the length that its byte 1 says.
+unfoldable pub ownLength : Entry → ℕ
+ownLength e =
+    cond (ofType mappingType e) 20
+    (cond (ofType hierarchyType e) 8
+    (cond (ofType modifierType e) 8 (extendedEntryLength e)))
+
+-- The bus of a 128, 129 or 130 entry.
+abbrev pub extendedBus : Entry → ℕ
+extendedBus e = byte e 2
+
+-- Of a 128 entry: "kind 3 (0 I/O, 1 memory, 2 prefetch), base 4, length 12 (eight bytes each)".
+abbrev pub spaceKind : Entry → ℕ
+spaceKind e = byte e 3
+
+abbrev pub spaceBase : Entry → ℕ
+spaceBase e = le 8 e 4
+
+abbrev pub spaceLength : Entry → ℕ
+spaceLength e = le 8 e 12
+
+-- Of a 129 entry: "subtractive bit 3:0, parent 4".
+abbrev pub subtractiveBit : Entry → Bool
+subtractiveBit e = bit 0 (byte e 3)
+
+abbrev pub parentBus : Entry → ℕ
+parentBus e = byte e 4
+
+-- Of a 130 entry: "bit 3:0 (1 takes away, 0 adds), list 4 (four bytes; 0 ISA, 1 VGA)".
+abbrev pub takesBit : Entry → Bool
+takesBit e = bit 0 (byte e 3)
+
+abbrev pub rangeList : Entry → ℕ
+rangeList e = le 4 e 4

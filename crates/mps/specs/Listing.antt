@@ -1,0 +1,184 @@
+-- The listing, to the byte. Document 01, "The bench board" from "Its listing" on.
+use Prim.Native.Nat.{ℕ, zero, suc, _+_, _/_, _%_}
+use mathlib.Core.Bool.{Bool, cond, not}
+use mathlib.Core.List.{List, [], _∷_, _++_}
+use lib.ListN.{length}
+use lib.Dec.{ltb, eqb}
+use Rattle.mps.specs.Words.{text, flag, keep, joined, put}
+use Rattle.mps.specs.Refusals.{_when_, refusal}
+use Rattle.mps.specs.Layout.{Entry, type, ofType, processorType, busType, ioApicType, ioInterruptType, mappingType, hierarchyType, modifierType}
+use Rattle.mps.specs.Layout.{feature1, imcr, baseLength, extendedLength, entryCount, baseEntries, extendedEntries, extendedEntryLength}
+use Rattle.mps.specs.Layout.{idOf, version, enabled, bootstrap, nameOf, addressOf}
+use Rattle.mps.specs.Layout.{interruptType, sourceBus, sourceIrq, polarity, trigger, destination, input}
+use Rattle.mps.specs.Layout.{extendedBus, spaceKind, spaceBase, spaceLength, parentBus, subtractiveBit, takesBit, rangeList}
+use Rattle.mps.specs.Pointer.{pointer, pointerBytes, isDefault, tableAddress, tableIn}
+use Rattle.mps.specs.Judge.{dumpRules}
+use Rattle.mps.specs.Answers.{writtenOf}
+use Rattle.mps.specs.declared.Written.{Written}
+
+-- ---- Numbers
+
+-- The last k digits of a number to a base, each shown by f, the highest first.
+unfoldable pub digits : ℕ → (ℕ → ℕ) → ℕ → ℕ → List ℕ
+digits base f zero n = []
+digits base f (suc k) n = digits base f k (n / base) ++ (f (n % base) ∷ [])
+
+-- 0 to 9
+unfoldable pub decimalDigit : ℕ → ℕ
+decimalDigit d = 48 + d
+
+-- 0 to 9, A to F: "upper-case hex digits"
+unfoldable pub hexDigit : ℕ → ℕ
+hexDigit d = cond (ltb d 10) (48 + d) (55 + d)
+
+-- How many decimal digits a number has. Every number that a listing shows so is below 65,536.
+unfoldable pub decimalWidth : ℕ → ℕ
+decimalWidth n = cond (ltb n 10) 1 (cond (ltb n 100) 2 (cond (ltb n 1000) 3 (cond (ltb n 10000) 4 5)))
+
+-- "Numbers are decimal"
+unfoldable pub decimal : ℕ → List ℕ
+decimal n = digits 10 decimalDigit (decimalWidth n) n
+
+-- "addresses eight upper-case hex digits", a mapping's base and length sixteen.
+unfoldable pub hex : ℕ → ℕ → List ℕ
+hex k n = digits 16 hexDigit k n
+
+-- ---- Lines: words with a space between them, "each line ended by byte 10"
+
+unfoldable pub line : List ℕ → List (List ℕ) → List ℕ
+line word [] = word ++ (10 ∷ [])
+line word (next ∷ words) = word ++ (32 ∷ line next words)
+
+abbrev pub notSpace : ℕ → Bool
+notSpace c = not (eqb c 32)
+
+-- "Bus names lose their padding": no name of Table 4-8 has a space inside.
+unfoldable pub unpadded : List ℕ → List ℕ
+unpadded name = keep notSpace name
+
+unfoldable pub onOff : Bool → List ℕ
+unfolding text
+onOff b = cond b (text "on") (text "off")
+
+unfoldable pub bootAp : Bool → List ℕ
+unfolding text
+bootAp b = cond b (text "boot") (text "ap")
+
+-- "type (`INT`, `NMI`, `SMI`, `EXTINT`)"
+unfoldable pub interruptName : ℕ → List ℕ
+unfolding text
+interruptName n = cond (eqb n 0) (text "INT") (cond (eqb n 1) (text "NMI") (cond (eqb n 2) (text "SMI") (text "EXTINT")))
+
+-- ---- The lines of the base entries
+
+unfoldable pub cpuLine : Entry → List ℕ
+unfolding text
+cpuLine e = line (text "cpu") (decimal (idOf e) ∷ decimal (version e) ∷ onOff (enabled e) ∷ bootAp (bootstrap e) ∷ [])
+
+unfoldable pub busLine : Entry → List ℕ
+unfolding text
+busLine e = line (text "bus") (decimal (idOf e) ∷ unpadded (nameOf e) ∷ [])
+
+unfoldable pub ioApicLine : Entry → List ℕ
+unfolding text
+ioApicLine e = line (text "ioapic") (decimal (idOf e) ∷ decimal (version e) ∷ onOff (enabled e) ∷ hex 8 (addressOf e) ∷ [])
+
+-- "Interrupt fields: type .., bus, IRQ, polarity, trigger, destination, input."
+unfoldable pub interruptLine : List ℕ → Entry → List ℕ
+interruptLine word e =
+    line word
+    (interruptName (interruptType e)
+    ∷ decimal (sourceBus e)
+    ∷ decimal (sourceIrq e)
+    ∷ decimal (polarity e)
+    ∷ decimal (trigger e)
+    ∷ decimal (destination e)
+    ∷ decimal (input e)
+    ∷ [])
+
+unfoldable pub baseLine : Entry → List ℕ
+unfolding text
+baseLine e =
+    cond (ofType processorType e) (cpuLine e)
+    (cond (ofType busType e) (busLine e)
+    (cond (ofType ioApicType e) (ioApicLine e)
+    (cond (ofType ioInterruptType e) (interruptLine (text "int") e) (interruptLine (text "lint") e))))
+
+-- ---- The lines of the extended entries
+
+-- "`map bus kind base length` (16 hex digits each)"
+unfoldable pub mapLine : Entry → List ℕ
+unfolding text
+mapLine e =
+    line (text "map") (decimal (extendedBus e) ∷ decimal (spaceKind e) ∷ hex 16 (spaceBase e) ∷ hex 16 (spaceLength e) ∷ [])
+
+-- "`tree bus parent bit`"
+unfoldable pub treeLine : Entry → List ℕ
+unfolding text
+treeLine e = line (text "tree") (decimal (extendedBus e) ∷ decimal (parentBus e) ∷ decimal (flag (subtractiveBit e)) ∷ [])
+
+-- "`mod bus bit list`"
+unfoldable pub modLine : Entry → List ℕ
+unfolding text
+modLine e = line (text "mod") (decimal (extendedBus e) ∷ decimal (flag (takesBit e)) ∷ decimal (rangeList e) ∷ [])
+
+-- "`skip type length`"
+unfoldable pub skipLine : Entry → List ℕ
+unfolding text
+skipLine e = line (text "skip") (decimal (type e) ∷ decimal (extendedEntryLength e) ∷ [])
+
+unfoldable pub extendedLine : Entry → List ℕ
+extendedLine e =
+    cond (ofType mappingType e) (mapLine e)
+    (cond (ofType hierarchyType e) (treeLine e)
+    (cond (ofType modifierType e) (modLine e) (skipLine e)))
+
+-- ---- The whole
+
+-- "`default n imcr b`": the only line.
+unfoldable pub defaultLine : List ℕ → List ℕ
+unfolding text
+defaultLine p = line (text "default") (decimal (feature1 p) ∷ text "imcr" ∷ decimal (flag (imcr p)) ∷ [])
+
+unfoldable pub pointerLine : ℕ → List ℕ → List ℕ
+unfolding text
+pointerLine address p = line (text "pointer") (hex 8 address ∷ text "imcr" ∷ decimal (flag (imcr p)) ∷ [])
+
+-- "The table line has address, base length, extended length and count".
+unfoldable pub tableLine : ℕ → List ℕ → List ℕ
+unfolding text
+tableLine address t =
+    line (text "table")
+    (hex 8 address ∷ decimal (baseLength t) ∷ decimal (extendedLength t) ∷ decimal (entryCount t) ∷ [])
+
+unfoldable pub endLine : List ℕ
+unfolding text
+endLine = line (text "end") []
+
+-- "entries follow in table order"
+unfoldable pub tableLines : ℕ → List ℕ → List ℕ
+tableLines address t =
+    tableLine address t ++ (joined baseLine (baseEntries t) ++ (joined extendedLine (extendedEntries t) ++ endLine))
+
+-- The listing of an accepted dump.
+unfoldable pub listing : List ℕ → List ℕ
+listing d =
+    cond (isDefault d) (defaultLine (pointerBytes d))
+    (pointerLine (pointer d .address) (pointerBytes d) ++ tableLines (tableAddress d) (tableIn d))
+
+-- "`refused n`": the listing program's line; the listing itself returns the number.
+unfoldable pub refusedLine : ℕ → List ℕ
+unfolding text
+refusedLine n = line (text "refused") (decimal n ∷ [])
+
+-- ---- The call: "the listing tests 1 to 18, then 19"
+
+unfoldable pub listRefusal : List ℕ → List ℕ → ℕ
+listRefusal d room = refusal (dumpRules d ++ (19 when ltb (length room) (length (listing d)) ∷ []))
+
+unfoldable pub listed : List ℕ → List ℕ → Written
+listed d room = writtenOf (listRefusal d room) (length (listing d))
+
+-- What the call leaves in its room: nothing new at a refusal.
+unfoldable pub listLeft : List ℕ → List ℕ → List ℕ
+listLeft d room = cond (eqb (listRefusal d room) 0) (put (listing d) room) room

@@ -1,0 +1,64 @@
+-- Interrupt routes. Document 01, "Routes and addresses", first paragraph; MPS 4.3.4 and 4.3.5.
+use Prim.Native.Nat.{ℕ, _/_}
+use mathlib.Core.Bool.{Bool, cond, not, _||_, _&&_}
+use mathlib.Core.List.{List, [], _∷_, _++_}
+use lib.ListN.{length}
+use lib.Dec.{ltb, eqb}
+use Rattle.mps.specs.Words.{keep, joined, put}
+use Rattle.mps.specs.Refusals.{Rule, _when_, refusal}
+use Rattle.mps.specs.Layout.{Entry, ofType, idOf, interruptType, sourceBus, sourceIrq, destination, input, everyone, baseEntries}
+use Rattle.mps.specs.Rules.{Side, enabledOf, listed}
+use Rattle.mps.specs.Judge.{tableRules}
+use Rattle.mps.specs.Answers.{routedOf}
+use Rattle.mps.specs.declared.Routed.{Routed}
+
+-- Whether an entry of a side is for an interrupt type, a bus and an IRQ: the whole byte of each.
+unfoldable pub asksFor : Side → ℕ → ℕ → ℕ → Entry → Bool
+asksFor side kind bus irq e =
+    ofType (side .lines) e && eqb (interruptType e) kind && eqb (sourceBus e) bus && eqb (sourceIrq e) irq
+
+-- Whether an interrupt entry names an APIC: "255 names all".
+unfoldable pub names : Entry → Entry → Bool
+names e apic = eqb (destination e) everyone || eqb (destination e) (idOf apic)
+
+-- "pairs (ID, input), two bytes each": the APIC's own ID, never 255.
+abbrev pub pairSize : ℕ
+pairSize = 2
+
+unfoldable pub pair : Entry → Entry → List ℕ
+pair e apic = idOf apic ∷ input e ∷ []
+
+-- ".. and in each entry every enabled I/O APIC it names, in table order"
+unfoldable pub pairsTo : List Entry → Entry → List ℕ
+pairsTo apics e = joined (pair e) (keep (names e) apics)
+
+-- "entries in table order": the bytes of all the pairs.
+unfoldable pub routes : Side → List Entry → ℕ → ℕ → ℕ → List ℕ
+routes side es kind bus irq = joined (pairsTo (enabledOf (side .ends) es)) (keep (asksFor side kind bus irq) es)
+
+-- The pairs of a table for a query.
+unfoldable pub routesOf : Side → List ℕ → ℕ → ℕ → ℕ → List ℕ
+routesOf side t kind bus irq = routes side (baseEntries t) kind bus irq
+
+-- ---- The query: "queries test the table, then 24, then 19"
+
+-- 24: "query: bus not listed .. or interrupt type over 3"
+unfoldable pub routeRules : Side → List ℕ → ℕ → ℕ → ℕ → List ℕ → List Rule
+routeRules side t kind bus irq room =
+    tableRules t
+    ++ (24 when (not (listed (baseEntries t) bus) || ltb 3 kind)
+    ∷ 19 when ltb (length room) (length (routesOf side t kind bus irq))
+    ∷ [])
+
+unfoldable pub routeRefusal : Side → List ℕ → ℕ → ℕ → ℕ → List ℕ → ℕ
+routeRefusal side t kind bus irq room = refusal (routeRules side t kind bus irq room)
+
+-- "No match is count 0."
+unfoldable pub routed : Side → List ℕ → ℕ → ℕ → ℕ → List ℕ → Routed
+routed side t kind bus irq room =
+    routedOf (routeRefusal side t kind bus irq room) (length (routesOf side t kind bus irq) / pairSize)
+
+-- What the query leaves in its room: nothing new at a refusal.
+unfoldable pub routesLeft : Side → List ℕ → ℕ → ℕ → ℕ → List ℕ → List ℕ
+routesLeft side t kind bus irq room =
+    cond (eqb (routeRefusal side t kind bus irq room) 0) (put (routesOf side t kind bus irq) room) room

@@ -1,0 +1,100 @@
+-- The writer, and the parts of a table. Document 01, "The writer takes .."; MPS 4.2, Table 4-2.
+use Prim.Native.Nat.{ℕ, _+_}
+use mathlib.Core.Bool.{cond}
+use mathlib.Core.List.{List, [], _∷_, _++_}
+use lib.ListN.{length, replicate}
+use lib.Dec.{ltb, eqb}
+use Rattle.mps.specs.Words.{text, cut, put, first}
+use Rattle.mps.specs.Refusals.{_when_, refusal}
+use Rattle.mps.specs.Sums.{sum256, toStore}
+use Rattle.mps.specs.Numbers.{bytes}
+use Rattle.mps.specs.Layout.{partMost, headerSize, baseEntryLength, basePart, extendedPart}
+use Rattle.mps.specs.Layout.{oemId, product, oemPointer, oemSize, localApic, reserved43}
+use Rattle.mps.specs.Judge.{tableRefusal}
+use Rattle.mps.specs.Answers.{writtenOf}
+use Rattle.mps.specs.declared.Written.{Written}
+
+-- "header fields (OEM ID, product, OEM pointer and size, local APIC address, byte 43)"
+pub record Fields : Type 0 where
+  pub oem : List ℕ
+  pub model : List ℕ
+  pub pointer : ℕ
+  pub size : ℕ
+  pub apic : ℕ
+  pub reserved : ℕ
+
+-- "header fields .., base entries and extended entries, both as bytes"
+pub record Parts : Type 0 where
+  pub fields : Fields
+  pub base : List ℕ
+  pub extended : List ℕ
+
+-- The parts of a table.
+unfoldable pub fieldsOf : List ℕ → Fields
+fieldsOf t =
+    record { oem = oemId t; model = product t; pointer = oemPointer t; size = oemSize t; apic = localApic t; reserved = reserved43 t }
+
+unfoldable pub partsOf : List ℕ → Parts
+partsOf t = record { fields = fieldsOf t; base = basePart t; extended = extendedPart t }
+
+-- ---- The image: "It works out lengths, count and checksums"; "the revision it writes is 4"
+
+abbrev pub baseSize : Parts → ℕ
+baseSize p = headerSize + length (p .base)
+
+abbrev pub countOf : Parts → ℕ
+countOf p = length (cut baseEntryLength 0 (p .base))
+
+-- The header, field by field in the order of Table 4-2, with its two checksums given.
+unfoldable pub header : Parts → ℕ → ℕ → List ℕ
+unfolding text
+header p baseSum extendedSum =
+    text "PCMP"
+    ++ (bytes 2 (baseSize p)
+    ++ (4
+    ∷ baseSum
+    ∷ (p .fields .oem
+    ++ (p .fields .model
+    ++ (bytes 4 (p .fields .pointer)
+    ++ (bytes 2 (p .fields .size)
+    ++ (bytes 2 (countOf p)
+    ++ (bytes 4 (p .fields .apic)
+    ++ (bytes 2 (length (p .extended)) ++ (extendedSum ∷ p .fields .reserved ∷ []))))))))))
+
+unfoldable pub extendedSumOf : Parts → ℕ
+extendedSumOf p = toStore (sum256 (p .extended))
+
+unfoldable pub baseSumOf : Parts → ℕ
+baseSumOf p = toStore (sum256 (header p 0 (extendedSumOf p) ++ p .base))
+
+-- The finished table.
+unfoldable pub image : Parts → List ℕ
+image p = header p (baseSumOf p) (extendedSumOf p) ++ (p .base ++ p .extended)
+
+abbrev pub imageSize : Parts → ℕ
+imageSize p = baseSize p + length (p .extended)
+
+-- ---- The call
+
+-- "It refuses 7 if the base would pass 4,096, 13 if the extended part would, then 19, all unwritten".
+unfoldable pub unwritten : Parts → List ℕ → ℕ
+unwritten p room =
+    refusal
+    (7 when ltb partMost (baseSize p)
+    ∷ 13 when ltb partMost (length (p .extended))
+    ∷ 19 when ltb (length room) (imageSize p)
+    ∷ [])
+
+-- ".. then the finished image is judged"
+unfoldable pub writeRefusal : Parts → List ℕ → ℕ
+writeRefusal p room = first (unwritten p room) (tableRefusal (image p))
+
+unfoldable pub written : Parts → List ℕ → Written
+written p room = writtenOf (writeRefusal p room) (imageSize p)
+
+-- ".. and a refusal leaves its bytes zero and the rest unchanged."
+unfoldable pub writeLeft : Parts → List ℕ → List ℕ
+writeLeft p room =
+    cond (eqb (unwritten p room) 0)
+    (cond (eqb (tableRefusal (image p)) 0) (put (image p) room) (put (replicate (imageSize p) 0) room))
+    room

@@ -1,0 +1,64 @@
+// The definitions of the whole product, and the types of its answers.
+//
+// specs/ is document 01 and Intel's MPS 1.4 in executable form, one module for each section; it is what a reader
+// must believe, and every contract of the crates above cites it. Nothing here runs and nothing needs a proof by
+// walk: laws about the definitions stand in the crates that use them. Read specs/ in the order of specs/Lib.antt.
+//
+// Each answer below is an enum; specs/Answers.antt gives the paper's number and values for each of its cases.
+
+// What the judge answers of a bare table: "numbers 5 to 18".
+pub enum Judged {
+    Accepted,
+    Refused(u8),
+}
+
+// What a dump holds: refused with 1 to 18, a default configuration, or a table. The table's bytes are those of
+// the dump from `start` to `end`, the end of the region that holds it.
+pub enum Held {
+    Default {
+        number: u8,
+        imcr: u8,
+    },
+    Table {
+        pointer: u32,
+        imcr: u8,
+        address: u32,
+        start: usize,
+        end: usize,
+    },
+    Refused(u8),
+}
+
+// What stands in a lent room: so many bytes of a listing or of a new table, or nothing new, with the reason.
+pub enum Written {
+    Bytes(usize),
+    Refused(u8),
+}
+
+// What a route query found: so many pairs of two bytes in the lent room.
+pub enum Routed {
+    Pairs(usize),
+    Refused(u8),
+}
+
+// What a bus sees of an address, each with the links to parents climbed.
+pub enum Seen {
+    No(usize),
+    Yes(usize),
+    Undeclared(usize),
+    Refused(u8),
+}
+
+// What became of an edit. "A refusal returns its number alone, except 23": Inner holds the number that the edited
+// table would be refused with.
+pub enum Edited {
+    Done,
+    Refused(u8),
+    Inner(u8),
+}
+
+// What the reader finds at a place: an entry of so many bytes, or none.
+pub enum Found {
+    Entry(usize),
+    Nothing,
+}

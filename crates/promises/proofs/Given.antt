@@ -1,0 +1,94 @@
+-- "Given exactly when": a table is refused with a number if and only if that number's row of document 01 is so and no row
+-- tested before it is. One theorem, `given-exactly` of laws, serves every number. Assumes nothing.
+use Prim.Native.Nat.{ℕ}
+use mathlib.Core.Path.{_≡_, refl}
+use mathlib.Core.Bool.{Bool, true, false}
+use mathlib.Core.List.{List}
+use mathlib.Core.Logic.{_↔_}
+use native.Mathlib.Omega.{arith}
+use lib.ListN.{take, drop}
+use Rattle.mps.specs.Words.{among, any, each}
+use Rattle.mps.specs.Refusals.{Rule}
+use Rattle.mps.specs.Layout.{baseEntries, extendedEntries}
+use Rattle.mps.specs.Table.{headerCut, unsigned, wrongBaseLength, wrongBaseSum, wrongRevision, wrongType, cutOrMiscounted, descendingType, wrongExtended}
+use Rattle.mps.specs.Rules.{wrongProcessors, wrongBuses, wrongIoApics, wrongInterrupts, wrongSpaces}
+use Rattle.mps.specs.Judge.{tableRules, tableRefusal}
+use Rattle.laws.proofs.Refusals.{so, given-exactly}
+
+-- A number is given exactly when its row is so and none of the rows before it is.
+abbrev Exactly : ℕ → ℕ → List Rule → Bool → Type 0
+Exactly given n before row = (given ≡ n) ↔ ((any so before ≡ false) × (row ≡ true))
+
+-- 5: 44 header bytes not in one region
+pub given-5 : (t : List ℕ) → Exactly (tableRefusal t) 5 (take 0 (tableRules t)) (headerCut t)
+unfolding tableRefusal tableRules among each
+given-5 t = given-exactly (take 0 (tableRules t)) 5 (headerCut t) (drop 1 (tableRules t)) (omega arith) refl refl
+
+-- 6: not "PCMP"
+pub given-6 : (t : List ℕ) → Exactly (tableRefusal t) 6 (take 1 (tableRules t)) (unsigned t)
+unfolding tableRefusal tableRules among each
+given-6 t = given-exactly (take 1 (tableRules t)) 6 (unsigned t) (drop 2 (tableRules t)) (omega arith) refl refl
+
+-- 7: base length under 44, over 4,096 or past the region
+pub given-7 : (t : List ℕ) → Exactly (tableRefusal t) 7 (take 2 (tableRules t)) (wrongBaseLength t)
+unfolding tableRefusal tableRules among each
+given-7 t = given-exactly (take 2 (tableRules t)) 7 (wrongBaseLength t) (drop 3 (tableRules t)) (omega arith) refl refl
+
+-- 8: base sum
+pub given-8 : (t : List ℕ) → Exactly (tableRefusal t) 8 (take 3 (tableRules t)) (wrongBaseSum t)
+unfolding tableRefusal tableRules among each
+given-8 t = given-exactly (take 3 (tableRules t)) 8 (wrongBaseSum t) (drop 4 (tableRules t)) (omega arith) refl refl
+
+-- 9: table revision not 4
+pub given-9 : (t : List ℕ) → Exactly (tableRefusal t) 9 (take 4 (tableRules t)) (wrongRevision t)
+unfolding tableRefusal tableRules among each
+given-9 t = given-exactly (take 4 (tableRules t)) 9 (wrongRevision t) (drop 5 (tableRules t)) (omega arith) refl refl
+
+-- 10: base type over 4
+pub given-10 : (t : List ℕ) → Exactly (tableRefusal t) 10 (take 5 (tableRules t)) (wrongType t)
+unfolding tableRefusal tableRules among each
+given-10 t = given-exactly (take 5 (tableRules t)) 10 (wrongType t) (drop 6 (tableRules t)) (omega arith) refl refl
+
+-- 11: entry cut by the base end, or count differs after the walk
+pub given-11 : (t : List ℕ) → Exactly (tableRefusal t) 11 (take 6 (tableRules t)) (cutOrMiscounted t)
+unfolding tableRefusal tableRules among each
+given-11 t = given-exactly (take 6 (tableRules t)) 11 (cutOrMiscounted t) (drop 7 (tableRules t)) (omega arith) refl refl
+
+-- 12: type below the one before
+pub given-12 : (t : List ℕ) → Exactly (tableRefusal t) 12 (take 7 (tableRules t)) (descendingType t)
+unfolding tableRefusal tableRules among each
+given-12 t = given-exactly (take 7 (tableRules t)) 12 (descendingType t) (drop 8 (tableRules t)) (omega arith) refl refl
+
+-- 13: extended part over 4,096, past the region, wrong sum, cut entry, length under 2, type under 128 or descending, or 128 to 130
+-- with another length than theirs
+pub given-13 : (t : List ℕ) → Exactly (tableRefusal t) 13 (take 8 (tableRules t)) (wrongExtended t)
+unfolding tableRefusal tableRules among each
+given-13 t = given-exactly (take 8 (tableRules t)) 13 (wrongExtended t) (drop 9 (tableRules t)) (omega arith) refl refl
+
+-- 14: local APIC address not a multiple of 4,096; not exactly one bootstrap entry, or that one disabled; an enabled processor with
+-- ID 255 or another enabled one's ID
+pub given-14 : (t : List ℕ) → Exactly (tableRefusal t) 14 (take 9 (tableRules t)) (wrongProcessors t)
+unfolding tableRefusal tableRules among each
+given-14 t = given-exactly (take 9 (tableRules t)) 14 (wrongProcessors t) (drop 10 (tableRules t)) (omega arith) refl refl
+
+-- 15: bus ID twice, or name unknown
+pub given-15 : (t : List ℕ) → Exactly (tableRefusal t) 15 (take 10 (tableRules t)) (wrongBuses (baseEntries t))
+unfolding tableRefusal tableRules among each
+given-15 t = given-exactly (take 10 (tableRules t)) 15 (wrongBuses (baseEntries t)) (drop 11 (tableRules t)) (omega arith) refl refl
+
+-- 16: enabled I/O APIC: ID 255, ID of another enabled I/O APIC or enabled processor, address 0 or not a multiple of 1,024
+pub given-16 : (t : List ℕ) → Exactly (tableRefusal t) 16 (take 11 (tableRules t)) (wrongIoApics (baseEntries t))
+unfolding tableRefusal tableRules among each
+given-16 t = given-exactly (take 11 (tableRules t)) 16 (wrongIoApics (baseEntries t)) (drop 12 (tableRules t)) (omega arith) refl refl
+
+-- 17: interrupt type over 3; reserved polarity or trigger; bus not listed; destination neither 255 nor the ID of a listed I/O APIC
+-- (type 3) or processor (type 4), enabled or not; local input over 1
+pub given-17 : (t : List ℕ) → Exactly (tableRefusal t) 17 (take 12 (tableRules t)) (wrongInterrupts (baseEntries t))
+unfolding tableRefusal tableRules among each
+given-17 t = given-exactly (take 12 (tableRules t)) 17 (wrongInterrupts (baseEntries t)) (drop 13 (tableRules t)) (omega arith) refl refl
+
+-- 18: extended bus or parent not listed; kind over 2; range past 2^64; second type 129 entry for a bus; parents in a circle (self
+-- too); list over 1
+pub given-18 : (t : List ℕ) → Exactly (tableRefusal t) 18 (take 13 (tableRules t)) (wrongSpaces (baseEntries t) (extendedEntries t))
+unfolding tableRefusal tableRules among each
+given-18 t = given-exactly (take 13 (tableRules t)) 18 (wrongSpaces (baseEntries t) (extendedEntries t)) (drop 14 (tableRules t)) (omega arith) refl refl

@@ -1,0 +1,106 @@
+-- Laws of `same` and of `sets` (bytes stored one behind the other, lib.Seq). Assumes nothing.
+use Prim.Native.Nat.{ℕ, suc, _+_, _≤_, _<_}
+use mathlib.Core.Path.{_≡_, refl, ap, sym, _∙_}
+use mathlib.Core.Bool.{true, false, and-false, true≢false}
+use mathlib.Core.List.{List, [], _∷_, _++_, append-assoc}
+use native.Mathlib.Omega.{arith}
+use native.Mathlib.Numerals.{add-one}
+use native.Mathlib.Nat.{zero-add, add-zero, add-suc, suc-add}
+use lib.ListN.{length, getD, set, take, drop, drop-of-length-le}
+use lib.Seq.{drop-cons, sets, sets-eq, set-out, take-set-le, drop-set-lt}
+use lib.Dec.{eqb}
+use borrow.Author.Tests.{eq-eqb, ne-eqb, eqb-true}
+use Rattle.mps.specs.Words.{same}
+use Rattle.laws.proofs.Tests.{and-parts}
+
+-- ---- same
+
+pub same-refl : (s : List ℕ) → same s s ≡ true
+unfolding same
+same-refl [] = refl
+same-refl (x ∷ xs) = rw (eq-eqb x x refl) (same-refl xs)
+
+pub same-is : (a b : List ℕ) → a ≡ b → same a b ≡ true
+same-is a b e = rw e (same-refl b)
+
+pub same-true : (a b : List ℕ) → same a b ≡ true → a ≡ b
+unfolding same
+same-true [] [] e = refl
+same-true [] (y ∷ ys) e = cc
+same-true (x ∷ xs) [] e = cc
+same-true (x ∷ xs) (y ∷ ys) e =
+    let h = and-parts (eqb x y) (same xs ys) e in
+    rw (eqb-true x y (h .0), same-true xs ys (h .1))
+
+pub same-false : (a b : List ℕ) → same a b ≡ false → a ≡ b → ⊥
+same-false a b e p = true≢false (sym (same-is a b p) ∙ e)
+
+pub same-length : (a b : List ℕ) → same a b ≡ true → length a ≡ length b
+same-length a b e = ap length (same-true a b e)
+
+pub same-other-length : (a b : List ℕ) → (length a ≡ length b → ⊥) → same a b ≡ false
+unfolding same
+same-other-length [] [] h = absurd (h refl)
+same-other-length [] (y ∷ ys) h = refl
+same-other-length (x ∷ xs) [] h = refl
+same-other-length (x ∷ xs) (y ∷ ys) h =
+    rw (same-other-length xs ys (λ e. h (ap suc e))) (and-false (eqb x y))
+
+-- From place i on: nothing is left, the bytes there are equal, or they differ.
+module _ (a b : List ℕ) (i : ℕ) where
+  pub same-done : length a ≤ i → length b ≤ i → same (drop i a) (drop i b) ≡ true
+  unfolding same
+  same-done h k = rw (drop-of-length-le a h, drop-of-length-le b k)
+
+  pub same-next :
+      i < length a → i < length b → getD a i 0 ≡ getD b i 0
+      → same (drop i a) (drop i b) ≡ same (drop (i + 1) a) (drop (i + 1) b)
+  unfolding same
+  same-next h k e = rw (add-one i, drop-cons a i 0 h, drop-cons b i 0 k, eq-eqb _ _ e)
+
+  pub same-stop :
+      i < length a → i < length b → (getD a i 0 ≡ getD b i 0 → ⊥)
+      → same (drop i a) (drop i b) ≡ false
+  unfolding same
+  same-stop h k e = rw (drop-cons a i 0 h, drop-cons b i 0 k, ne-eqb _ _ e)
+
+-- ---- sets
+
+-- Past the end nothing is stored.
+pub sets-past : (t : List ℕ) (at : ℕ) (w : List ℕ) → length t ≤ at → sets t at w ≡ t
+sets-past t at [] h = refl
+sets-past t at (x ∷ xs) h = rw (set-out t at x h) (sets-past t (suc at) xs (omega arith))
+
+pub sets-fit :
+    (t : List ℕ) (at : ℕ) (w : List ℕ) → at + length w ≤ length t
+    → sets t at w ≡ take at t ++ (w ++ drop (at + length w) t)
+sets-fit t at w h = sets-eq w t at h ∙ append-assoc (take at t) w _
+
+pub sets-at-start : (t w : List ℕ) → length w ≤ length t → sets t 0 w ≡ w ++ drop (length w) t
+sets-at-start t w h = simp zero-add at (sets-fit t 0 w (rw zero-add h))
+
+-- What stands before the stores stays, and so does what stands behind them, whether they fit or not.
+pub sets-take : (t : List ℕ) (at : ℕ) (w : List ℕ) (n : ℕ) → n ≤ at → take n (sets t at w) ≡ take n t
+sets-take t at [] n h = refl
+sets-take t at (x ∷ xs) n h = sets-take (set t at x) (suc at) xs n (omega arith) ∙ take-set-le n t at x h
+
+pub sets-drop :
+    (t : List ℕ) (at : ℕ) (w : List ℕ) (n : ℕ) → at + length w ≤ n → drop n (sets t at w) ≡ drop n t
+sets-drop t at [] n h = refl
+sets-drop t at (x ∷ xs) n h =
+    sets-drop (set t at x) (suc at) xs n (omega arith) ∙ drop-set-lt n t at x (omega arith)
+
+-- Two lists joined are stored one behind the other.
+pub sets-append :
+    (t : List ℕ) (at : ℕ) (v w : List ℕ) → sets t at (v ++ w) ≡ sets (sets t at v) (at + length v) w
+sets-append t at [] w = rw add-zero
+sets-append t at (x ∷ xs) w = sets-append (set t at x) (suc at) xs w ∙ rw (add-suc, suc-add)
+
+-- From byte i of w on: nothing is left, or one more is stored.
+module _ (t w : List ℕ) (at i : ℕ) where
+  pub sets-done : length w ≤ i → sets t at (drop i w) ≡ t
+  sets-done h = rw drop-of-length-le
+
+  pub sets-next :
+      i < length w → sets t at (drop i w) ≡ sets (set t at (getD w i 0)) (at + 1) (drop (i + 1) w)
+  sets-next h = rw (add-one i, add-one at, drop-cons w i 0 h)

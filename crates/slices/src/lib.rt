@@ -1,0 +1,55 @@
+// Comparing, copying and clearing slices of bytes.
+//
+// Each function answers what one definition says, for slices of any length: `same` of mps's specs/Words.antt, and
+// `sets` and `replicate` of Rattle's lists. None has a `requires`. The laws that callers cite stand in
+// proofs/Laws.antt.
+ghost use mathlib.Core.Path.{_≡_};
+ghost use lib.ListN.{length, replicate};
+ghost use lib.Seq.{sets};
+ghost use Rattle.mps.specs.Words.{same as sameBytes};
+
+// Whether two slices hold the same bytes: as many of them, and equal at each place.
+pub fn same(a: &[u8], b: &[u8]) -> bool
+    ensures { λ r. ⌜ r ≡ sameBytes (now (a .entry)) (now (b .entry)) ⌝ }
+{
+    if a.len() != b.len() {
+        return false;
+    }
+    let mut i = 0;
+    while i < a.len() {
+        if a[i] != b[i] {
+            return false;
+        }
+        i += 1;
+    }
+    true
+}
+
+// Stores the bytes of `s` in `out` from `at` on. Bytes that would come to stand past its end are not stored, so that
+// no caller has to show that they fit.
+pub fn copy(out: &mut [u8], at: usize, s: &[u8])
+    ensures { λ _. ⌜ now (out .exit) ≡ sets (now (out .entry)) at (now (s .entry)) ⌝ }
+{
+    // `at + i` could overflow where nothing fits; a place of its own that stops at the end cannot.
+    let mut place = at;
+    let mut i = 0;
+    while i < s.len() {
+        if out.len() <= place {
+            return;
+        }
+        out[place] = s[i];
+        place += 1;
+        i += 1;
+    }
+}
+
+// Makes every byte 0.
+pub fn zero(out: &mut [u8])
+    ensures { λ _. ⌜ now (out .exit) ≡ replicate (length (now (out .entry))) 0 ⌝ }
+{
+    let mut i = 0;
+    while i < out.len() {
+        out[i] = 0;
+        i += 1;
+    }
+}

@@ -1,0 +1,7 @@
+// The two constant tables of document 01: the bus names, and the predefined ranges of I/O addresses.
+//
+// Each table stands in a module of its own, with the one function that looks into it. Each function answers what one
+// definition says, of mps's specs/Buses.antt and specs/Ranges.antt, for every argument: none has a `requires`. The
+// laws that callers cite stand in proofs/Laws.antt.
+pub mod names; // MPS Table 4-8
+pub mod ranges; // MPS Table 4-17

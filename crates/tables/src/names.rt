@@ -1,0 +1,39 @@
+// MPS Table 4-8, the names of buses.
+ghost use mathlib.Core.Path.{_≡_};
+ghost use Rattle.mps.specs.Buses.{isBusName};
+
+const NAMES: [[u8; 6]; 18] = [
+    *b"CBUS  ",
+    *b"CBUSII",
+    *b"EISA  ",
+    *b"FUTURE",
+    *b"INTERN",
+    *b"ISA   ",
+    *b"MBI   ",
+    *b"MBII  ",
+    *b"MCA   ",
+    *b"MPI   ",
+    *b"MPSA  ",
+    *b"NUBUS ",
+    *b"PCI   ",
+    *b"PCMCIA",
+    *b"TC    ",
+    *b"VL    ",
+    *b"VME   ",
+    *b"XPRESS",
+];
+
+// Whether some bytes are one of the names, its blanks with it.
+pub fn is_bus_name(name: &[u8]) -> bool
+    ensures { λ r. ⌜ r ≡ isBusName (now (name .entry)) ⌝ }
+{
+    let mut k = 0;
+    while k < 18 {
+        let row = NAMES[k];
+        if slices::same(name, &row) {
+            return true;
+        }
+        k += 1;
+    }
+    false
+}
