@@ -1,5 +1,6 @@
 pub mod Tests
 pub mod Bits
 pub mod Lists
+pub mod Stores
 pub mod Cut
 pub mod Refusals

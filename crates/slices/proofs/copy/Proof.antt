@@ -5,7 +5,8 @@ use native.Mathlib.Omega.{arith}
 use lib.ListN.{length, drop, length-set}
 use lib.Seq.{sets}
 use borrow.Author.Needs.{needs}
-use Rattle.slices.proofs.Laws.{sets-past, sets-done, sets-next}
+use Rattle.laws.proofs.Stores.{sets-past}
+use Rattle.slices.proofs.Laws.{sets-done, sets-next}
 use Rattle.slices.proofs.copy.Statement.{statement}
 use Rattle.slices.proofs.copy.Tie as tie
 

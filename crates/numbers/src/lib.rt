@@ -1,0 +1,105 @@
+// Numbers in bytes: one byte, and little-endian numbers of 2, 4 and 8 bytes, read from a slice and stored in one.
+// Each function is its definition in crates/mps/specs/Numbers.antt, at every place of every slice: a byte past the
+// end reads as 0, and a store past the end does nothing. proofs/Laws.antt has the laws over any width.
+ghost use mathlib.Core.Path.{_≡_};
+ghost use Prim.Native.Nat.{_-_, _^_, _≤_, _<_};
+ghost use lib.ListN.{length, getD};
+ghost use lib.Seq.{sets};
+ghost use Rattle.mps.specs.Numbers.{le, bytes};
+
+pub fn byte(s: &[u8], at: usize) -> u8
+    ensures { λ r. ⌜ r ≡ getD (now (s .entry)) at 0 ⌝ }
+{
+    if at < s.len() { s[at] } else { 0 }
+}
+
+// The bound is what a caller cannot see: that the number was a byte.
+pub fn wide(x: u8) -> u64
+    ensures { λ r. ⌜ (r ≡ x) × (r < 256) ⌝ }
+{
+    x as u64
+}
+
+// How many bytes stand from a place on.
+fn left(s: &[u8], at: usize) -> usize
+    ensures { λ r. ⌜ r ≡ length (now (s .entry)) - at ⌝ }
+{
+    if at < s.len() { s.len() - at } else { 0 }
+}
+
+// Any width at any place: the way for the few numbers that reach past the end. From the highest byte down, so that no
+// power of 256 is held; `at` may be any number, so nothing is added to it before it is known to lie inside.
+fn le_any(s: &[u8], at: usize, k: usize) -> u64
+    requires { ⌜ k ≤ 8 ⌝ }
+    ensures { λ r. ⌜ (r ≡ le k (now (s .entry)) at) × (r < 256 ^ k) ⌝ }
+{
+    if s.len() <= at {
+        return 0;
+    }
+    let mut r: u64 = 0;
+    let mut i = k;
+    while 0 < i {
+        i -= 1;
+        r = r * 256 + wide(byte(s, at + i));
+    }
+    r
+}
+
+pub fn le16(s: &[u8], at: usize) -> u16
+    ensures { λ r. ⌜ r ≡ le 2 (now (s .entry)) at ⌝ }
+{
+    if 2 <= left(s, at) {
+        return (wide(s[at]) + wide(s[at + 1]) * 256) as u16;
+    }
+    le_any(s, at, 2) as u16
+}
+
+pub fn le32(s: &[u8], at: usize) -> u32
+    ensures { λ r. ⌜ r ≡ le 4 (now (s .entry)) at ⌝ }
+{
+    if 4 <= left(s, at) {
+        let low = wide(s[at]) + wide(s[at + 1]) * 256;
+        let high = wide(s[at + 2]) + wide(s[at + 3]) * 256;
+        return (low + high * 65536) as u32;
+    }
+    le_any(s, at, 4) as u32
+}
+
+pub fn le64(s: &[u8], at: usize) -> u64
+    ensures { λ r. ⌜ r ≡ le 8 (now (s .entry)) at ⌝ }
+{
+    if 4 <= left(s, at) {
+        return le32(s, at) as u64 + le32(s, at + 4) as u64 * 4294967296;
+    }
+    le_any(s, at, 8)
+}
+
+// Any width at any place.
+fn put_any(out: &mut [u8], at: usize, x: u64, k: usize)
+    ensures { λ _. ⌜ now (out .exit) ≡ sets (now (out .entry)) at (bytes k x) ⌝ }
+{
+    let mut i = at;
+    let mut rest = x;
+    let mut more = k;
+    while i < out.len() {
+        if more == 0 {
+            return;
+        }
+        out[i] = (rest % 256) as u8;
+        rest = rest / 256;
+        more -= 1;
+        i += 1;
+    }
+}
+
+pub fn put16(out: &mut [u8], at: usize, x: u16)
+    ensures { λ _. ⌜ now (out .exit) ≡ sets (now (out .entry)) at (bytes 2 x) ⌝ }
+{
+    put_any(out, at, x as u64, 2);
+}
+
+pub fn put32(out: &mut [u8], at: usize, x: u32)
+    ensures { λ _. ⌜ now (out .exit) ≡ sets (now (out .entry)) at (bytes 4 x) ⌝ }
+{
+    put_any(out, at, x as u64, 4);
+}
