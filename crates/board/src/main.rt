@@ -5,6 +5,7 @@
 // one's place as the main job.
 mod bytes;
 
+use mps::layout;
 ghost use mathlib.Core.Path.{_≡_};
 
 fn shown(words: &[u8], found: u64, paper: u64)
@@ -27,17 +28,17 @@ fn checksums() {
 fn edited() {
     let mut table = bytes::TABLE;
     table[87] = 9;
-    table[7] = 0;
+    table[layout::CHECKSUM] = 0;
     let stored = sums::to_store(sums::sum(&table));
     shown(b"checksum for input 9 ", stored as u64, 0xb8);
 }
 
 fn header() {
-    let length = numbers::le16(&bytes::TABLE, 4);
+    let length = numbers::le16(&bytes::TABLE, layout::BASE_LENGTH);
     shown(b"base length ", length as u64, 96);
-    let entries = numbers::le16(&bytes::TABLE, 34);
+    let entries = numbers::le16(&bytes::TABLE, layout::ENTRY_COUNT);
     shown(b"entries ", entries as u64, 5);
-    let table = numbers::le32(&bytes::POINTER, 4);
+    let table = numbers::le32(&bytes::POINTER, layout::POINTER_TABLE);
     shown(b"table at ", table as u64, 0xf_0010);
 }
 

@@ -5,6 +5,7 @@
 // walk: laws about the definitions stand in the crates that use them. Read specs/ in the order of specs/Lib.antt.
 //
 // Each answer below is an enum; specs/Answers.antt gives the paper's number and values for each of its cases.
+pub mod layout; // the offsets, lengths and limits that the code uses
 
 // What the judge answers of a bare table: "numbers 5 to 18".
 pub enum Judged {

@@ -44,7 +44,7 @@ pub fn copy(out: &mut [u8], at: usize, s: &[u8])
 }
 
 // Makes every byte 0.
-pub fn zero(out: &mut [u8])
+pub fn clear(out: &mut [u8])
     ensures { λ _. ⌜ now (out .exit) ≡ replicate (length (now (out .entry))) 0 ⌝ }
 {
     let mut i = 0;

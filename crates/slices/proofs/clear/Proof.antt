@@ -1,4 +1,4 @@
--- `slices::zero` meets its contract. The loop's invariant: i zeros, and then what was there.
+-- `slices::clear` meets its contract. The loop's invariant: i zeros, and then what was there.
 use Prim.Native.Nat.{_-_, _≤_}
 use mathlib.Core.Path.{_≡_, refl, _∙_}
 use mathlib.Core.List.{_++_, append-nil}
@@ -7,8 +7,8 @@ use lib.ListN.{length, drop, replicate, length-set}
 use lib.Seq.{drop-length}
 use borrow.Author.Fill.{fill-none, fill-more}
 use borrow.Author.Needs.{needs}
-use Rattle.slices.proofs.zero.Statement.{statement}
-use Rattle.slices.proofs.zero.Tie as tie
+use Rattle.slices.proofs.clear.Statement.{statement}
+use Rattle.slices.proofs.clear.Tie as tie
 
 abbrev Inv-loop : tie.InvT-loop
 Inv-loop out₀ i₀ out i =
@@ -44,8 +44,8 @@ returns c =
     let e : l .i ≡ length (c .before .before .args .out .now) = omega arith in
     l .inv .0 ∙ rw (e, drop-length, append-nil)
 
-pub zero-spec : {M : Type 1} → statement M
-zero-spec =
+pub clear-spec : {M : Type 1} → statement M
+clear-spec =
     tie.close
     (tie.spec
     Inv-loop
