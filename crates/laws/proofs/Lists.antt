@@ -1,14 +1,51 @@
--- Laws of the words about lists, for a loop that stands at a place of one. Assumes nothing.
+-- Laws of the words about lists. Assumes nothing.
 use Prim.Native.Nat.{ℕ, _+_, _≤_, _<_}
 use mathlib.Core.Path.{_≡_}
-use mathlib.Core.Bool.{Bool, true, false}
-use mathlib.Core.List.{List}
+use mathlib.Core.Bool.{Bool, true, false, false≢true, or-true}
+use mathlib.Core.List.{List, [], _∷_}
 use native.Mathlib.Numerals.{add-one}
 use lib.ListN.{length, getD, drop, drop-of-length-le}
 use lib.Seq.{drop-cons}
-use Rattle.mps.specs.Words.{any}
+use lib.Dec.{eqb}
+use borrow.Author.Tests.{eqb-true, eq-eqb}
+use Rattle.mps.specs.Words.{among, any}
+use Rattle.laws.proofs.Tests.{either}
+
+-- ---- among
+
+pub among-none : (x : ℕ) → among x [] ≡ true → ⊥
+unfolding among
+among-none x a = false≢true a
+
+pub among-first : (x y : ℕ) (ys : List ℕ) → x ≡ y → among x (y ∷ ys) ≡ true
+unfolding among
+among-first x y ys q = rw (eq-eqb x y q)
+
+pub among-rest : (x y : ℕ) (ys : List ℕ) → among x ys ≡ true → among x (y ∷ ys) ≡ true
+unfolding among
+among-rest x y ys a = rw a (or-true (eqb x y))
+
+pub among-cases : {C : Type 0} (x y : ℕ) (ys : List ℕ) → among x (y ∷ ys) ≡ true → (x ≡ y → C) → (among x ys ≡ true → C) → C
+unfolding among
+among-cases x y ys a f g = either (eqb x y) (among x ys) a (λ h. f (eqb-true x y h)) g
+
+-- Every number of one list is among those of another.
+abbrev pub Within : List ℕ → List ℕ → Type 0
+Within xs ys = (z : ℕ) → among z xs ≡ true → among z ys ≡ true
 
 -- ---- any
+
+-- Where some number passes, there is one that does.
+pub any-one : (p : ℕ → Bool) (xs : List ℕ) → any p xs ≡ true → (x : ℕ) × (p x ≡ true)
+unfolding any
+any-one p [] e = absurd (false≢true e)
+any-one p (x ∷ xs) e = either (p x) (any p xs) e (λ h. (x, h)) (any-one p xs)
+
+-- One number of a list that passes is enough.
+pub any-among : (p : ℕ → Bool) (x : ℕ) (xs : List ℕ) → among x xs ≡ true → p x ≡ true → any p xs ≡ true
+unfolding any
+any-among p x [] a e = absurd (among-none x a)
+any-among p x (y ∷ xs) a e = among-cases x y xs a (λ q. rw (← q, e)) (λ b. rw (any-among p x xs b e) (or-true (p y)))
 
 -- From place i on: nothing is left, the element there passes the test, or it does not.
 module _ {A : Type 0} (p : A → Bool) (l : List A) (d : A) (i : ℕ) where

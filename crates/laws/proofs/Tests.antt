@@ -1,6 +1,6 @@
 -- Laws of the tests that definitions are made of. Assumes nothing.
 use Prim.Native.Nat.{ℕ}
-use mathlib.Core.Path.{_≡_, refl, sym}
+use mathlib.Core.Path.{_≡_, refl, sym, _∙_}
 use mathlib.Core.Bool.{Bool, true, false, _||_, _&&_, true≢false}
 use lib.Dec.{eqb}
 use borrow.Author.Tests.{eq-eqb, ne-eqb, eqb-true, eqb-false}
@@ -14,6 +14,22 @@ eqb-comm a b = cases (eqb b a) refl
     cases true e = eq-eqb a b (sym (eqb-true b a e))
     cases false e = ne-eqb a b (λ p. eqb-false b a e (sym p))
 
+-- ---- A test is true or false
+
+pub whether : {C : Type 0} (a : Bool) → (a ≡ true → C) → (a ≡ false → C) → C
+whether true f g = f refl
+whether false f g = g refl
+
+-- What would make true what is false is false.
+pub contrary : (a b : Bool) → (a ≡ true → b ≡ true) → b ≡ false → a ≡ false
+contrary true b f h = absurd (true≢false (sym (f refl) ∙ h))
+contrary false b f h = refl
+
+-- Two tests that follow from one another are the same.
+pub same-test : (a b : Bool) → (a ≡ true → b ≡ true) → (b ≡ true → a ≡ true) → a ≡ b
+same-test true b f g = sym (f refl)
+same-test false b f g = sym (contrary b false g refl)
+
 -- ---- &&
 
 pub and-parts : (p q : Bool) → (p && q) ≡ true → (p ≡ true) × (q ≡ true)
@@ -21,6 +37,10 @@ and-parts true q e = (refl, e)
 and-parts false q e = absurd (true≢false (sym e))
 
 -- ---- ||
+
+pub either : {C : Type 0} (a b : Bool) → (a || b) ≡ true → (a ≡ true → C) → (b ≡ true → C) → C
+either true b e f g = f e
+either false b e f g = g e
 
 pub or-parts : (p q : Bool) → (p || q) ≡ false → (p ≡ false) × (q ≡ false)
 or-parts true q e = absurd (true≢false e)

@@ -24,8 +24,8 @@ pub le-two : (s : List ℕ) (at : ℕ) → le 2 s at ≡ getD s at 0 + getD s (a
 unfolding le
 le-two s at = omega arith
 
-pub le-four : (s : List ℕ) (at : ℕ) → le 4 s at ≡ getD s at 0 + getD s (at + 1) 0 * 256 + (getD s (at + 2) 0 + getD s (at + 3) 0 * 256) * 65536
-le-four s at = omega (arith, le-split 2 2 s at, le-two s at, rw add-assoc at (le-two s (at + 2)))
+pub le-four : (s : List ℕ) (at : ℕ) → le 4 s at ≡ le 2 s at + le 2 s (at + 2) * 65536
+le-four s at = omega (arith, le-split 2 2 s at)
 
 pub le-eight : (s : List ℕ) (at : ℕ) → le 8 s at ≡ le 4 s at + le 4 s (at + 4) * 4294967296
 le-eight s at = omega (arith, le-split 4 4 s at)

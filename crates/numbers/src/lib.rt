@@ -57,10 +57,8 @@ pub fn le16(s: &[u8], at: usize) -> u16
 pub fn le32(s: &[u8], at: usize) -> u32
     ensures { λ r. ⌜ r ≡ le 4 (now (s .entry)) at ⌝ }
 {
-    if 4 <= left(s, at) {
-        let low = wide(s[at]) + wide(s[at + 1]) * 256;
-        let high = wide(s[at + 2]) + wide(s[at + 3]) * 256;
-        return (low + high * 65536) as u32;
+    if 2 <= left(s, at) {
+        return le16(s, at) as u32 + le16(s, at + 2) as u32 * 65536;
     }
     le_any(s, at, 4) as u32
 }

@@ -1,4 +1,4 @@
--- Inside the slice `le-four`; else it is `le_any`.
+-- Two numbers of two bytes, `le-four`; else it is `le_any`.
 use native.Mathlib.Omega.{arith}
 use Rattle.numbers.proofs.Laws.{le-four}
 use borrow.Author.Needs.{needs}
@@ -8,50 +8,20 @@ use Rattle.numbers.proofs.le32.Tie as tie
 left-requires : tie.Need-left-requires
 left-requires c κs = search needs
 
-shared-slice-read-wide : tie.Need-shared-slice-read-wide
-shared-slice-read-wide c = search needs
+le16-requires : tie.Need-le16-requires
+le16-requires c κs = search needs
 
-wide-requires : tie.Need-wide-requires
-wide-requires c κs = search needs
+cast-result : tie.Need-cast-result
+cast-result c = search needs
 
-add-wide : tie.Need-add-wide
-add-wide c = search needs
+add-le16 : tie.Need-add-le16
+add-le16 c = search needs
 
-shared-slice-read-wide-2 : tie.Need-shared-slice-read-wide-2
-shared-slice-read-wide-2 c = search needs
+le16-requires-2 : tie.Need-le16-requires-2
+le16-requires-2 c κs = search needs
 
-wide-requires-2 : tie.Need-wide-requires-2
-wide-requires-2 c κs = search needs
-
-mul-low : tie.Need-mul-low
-mul-low c = search needs
-
-add-low : tie.Need-add-low
-add-low c = search needs
-
-add-wide-2 : tie.Need-add-wide-2
-add-wide-2 c = search needs
-
-shared-slice-read-wide-3 : tie.Need-shared-slice-read-wide-3
-shared-slice-read-wide-3 c = search needs
-
-wide-requires-3 : tie.Need-wide-requires-3
-wide-requires-3 c κs = search needs
-
-add-wide-3 : tie.Need-add-wide-3
-add-wide-3 c = search needs
-
-shared-slice-read-wide-4 : tie.Need-shared-slice-read-wide-4
-shared-slice-read-wide-4 c = search needs
-
-wide-requires-4 : tie.Need-wide-requires-4
-wide-requires-4 c κs = search needs
-
-mul-high : tie.Need-mul-high
-mul-high c = search needs
-
-add-high : tie.Need-add-high
-add-high c = search needs
+cast-result-2 : tie.Need-cast-result-2
+cast-result-2 c = search needs
 
 mul-result : tie.Need-mul-result
 mul-result c = search needs
@@ -59,19 +29,16 @@ mul-result c = search needs
 add-result : tie.Need-add-result
 add-result c = search needs
 
-cast-result : tie.Need-cast-result
-cast-result c = search needs
-
 returns : tie.Need-returns
 returns c =
-    let a = c .before .before .before .before .before .before .before .before .before .before .before .args in
+    let a = c .before .before .before .before .before .args in
     omega (arith, le-four (a .s .now) (a .at))
 
 le-any-requires : tie.Need-le-any-requires
 le-any-requires c κs = search needs
 
-cast-result-2 : tie.Need-cast-result-2
-cast-result-2 c = search needs
+cast-result-3 : tie.Need-cast-result-3
+cast-result-3 c = search needs
 
 returns-2 : tie.Need-returns-2
 returns-2 c = search needs
@@ -81,25 +48,14 @@ le32-spec =
     tie.close
     (tie.spec
     left-requires
-    shared-slice-read-wide
-    wide-requires
-    add-wide
-    shared-slice-read-wide-2
-    wide-requires-2
-    mul-low
-    add-low
-    add-wide-2
-    shared-slice-read-wide-3
-    wide-requires-3
-    add-wide-3
-    shared-slice-read-wide-4
-    wide-requires-4
-    mul-high
-    add-high
+    le16-requires
+    cast-result
+    add-le16
+    le16-requires-2
+    cast-result-2
     mul-result
     add-result
-    cast-result
     returns
     le-any-requires
-    cast-result-2
+    cast-result-3
     returns-2)
