@@ -10,7 +10,7 @@ use lib.Dec.{eqb}
 use borrow.Author.Tests.{eqb-true, eq-eqb}
 use Rattle.mps.specs.Words.{among, twice, keep, any, each, none, head}
 use Rattle.mps.specs.Layout.{Entry, busType, extendedBus, parentBus}
-use Rattle.mps.specs.Rules.{idsOf, listed, wrongHierarchy, onBus, parentsOf, climbsTo, onCircle, circle}
+use Rattle.mps.specs.Rules.{idsOf, isListed, wrongHierarchy, onBus, parentsOf, climbsTo, onCircle, circle}
 use Rattle.laws.proofs.Tests.{whether, either, and-parts, contrary, same-test}
 use Rattle.laws.proofs.Lists.{among-none, among-first, among-rest, among-cases, Within, any-one, any-among}
 use Rattle.laws.proofs.Pigeons.{pigeonhole}
@@ -244,7 +244,7 @@ circle-enough m ls bus e = round-circle ls (to-way ls m bus bus e)
 -- ---- The buses that a table lists
 
 -- A link to a bus that is not listed is refused,
-unlisted-parent : (es ls : List Entry) (z : ℕ) → listed es z ≡ false → among z (each parentBus ls) ≡ true → any (wrongHierarchy es) ls ≡ true
+unlisted-parent : (es ls : List Entry) (z : ℕ) → isListed es z ≡ false → among z (each parentBus ls) ≡ true → any (wrongHierarchy es) ls ≡ true
 unfolding any each wrongHierarchy
 unlisted-parent es [] z h a = absurd (among-none z a)
 unlisted-parent es (e ∷ ls) z h a =
@@ -254,8 +254,8 @@ unlisted-parent es (e ∷ ls) z h a =
 
 -- so a climb takes fewer links than there are listed buses.
 pub climbs-listed : (es ls : List Entry) → any (wrongHierarchy es) ls ≡ false → circle ls ≡ false
-    → (bus : ℕ) → listed es bus ≡ true → climbs (length (idsOf busType es)) ls bus ≡ false
-unfolding listed
+    → (bus : ℕ) → isListed es bus ≡ true → climbs (length (idsOf busType es)) ls bus ≡ false
+unfolding isListed
 climbs-listed es ls h c =
     climbs-bound ls (idsOf busType es) c
-    (λ z a. whether (listed es z) (λ y. y) (λ n. absurd (true≢false (sym (unlisted-parent es ls z n a) ∙ h))))
+    (λ z a. whether (isListed es z) (λ y. y) (λ n. absurd (true≢false (sym (unlisted-parent es ls z n a) ∙ h))))

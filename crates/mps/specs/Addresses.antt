@@ -9,7 +9,7 @@ use Rattle.mps.specs.Refusals.{Rule, _when_, refusal}
 use Rattle.mps.specs.Ranges.{inList}
 use Rattle.mps.specs.Layout.{Entry, ofType, busType, mappingType, modifierType, baseEntries, extendedEntries}
 use Rattle.mps.specs.Layout.{spaceKind, spaceBase, spaceLength, subtractiveBit, takesBit, rangeList}
-use Rattle.mps.specs.Rules.{onBus, links, parentsOf, listed, idsOf}
+use Rattle.mps.specs.Rules.{onBus, links, parentsOf, isListed, idsOf}
 use Rattle.mps.specs.Judge.{tableRules}
 use Rattle.mps.specs.Answers.{seenOf}
 use Rattle.mps.specs.declared.Seen.{Seen}
@@ -82,7 +82,7 @@ seenBy t bus kind address =
 
 -- 24: "query: bus not listed, address kind over 2"
 unfoldable pub addressRules : List ℕ → ℕ → ℕ → List Rule
-addressRules t bus kind = tableRules t ++ (24 when (not (listed (baseEntries t) bus) || ltb 2 kind) ∷ [])
+addressRules t bus kind = tableRules t ++ (24 when (not (isListed (baseEntries t) bus) || ltb 2 kind) ∷ [])
 
 unfoldable pub seen : List ℕ → ℕ → ℕ → ℕ → Seen
 seen t bus kind address = seenOf (refusal (addressRules t bus kind)) (seenBy t bus kind address)

@@ -1,5 +1,5 @@
 -- The dump and its regions: refusal 1. Document 01, "The dump: contents first, then bodies".
-use Prim.Native.Nat.{ℕ, zero, suc, _+_, _*_, _%_, _^_}
+use Prim.Native.Nat.{ℕ, zero, suc, _+_, _*_, _%_}
 use mathlib.Core.Bool.{Bool, false, not, _||_, _&&_}
 use mathlib.Core.List.{List, [], _∷_}
 use lib.ListN.{length, drop}
@@ -7,7 +7,7 @@ use lib.Dec.{leb, ltb, eqb}
 use Rattle.mps.specs.Words.{part, keep, any, every, each, head, twice}
 use Rattle.mps.specs.Ranges.{within}
 use Rattle.mps.specs.Sums.{total}
-use Rattle.mps.specs.Layout.{dumpMost, regionsMost, regionCount, rowLength, rowKind, rowBase, rowSize}
+use Rattle.mps.specs.Layout.{dumpMost, regionsMost, kilobyte, romStart, romEnd, memoryEnd, regionCount, rowLength, rowKind, rowBase, rowSize}
 
 -- A region: its kind, its physical base, the offset of its body in the dump, and its length.
 pub record Region : Type 0 where
@@ -53,13 +53,13 @@ ofKind k r = eqb (r .kind) k
 -- "kinds 1 and 2 have at most 1,024 bytes; kind 3 has its base at F0000h or above and base plus length at most 100000h"
 unfoldable pub kindRule : Region → Bool
 kindRule r =
-    (ofKind 1 r || ofKind 2 r) && leb (r .size) 1024
-    || ofKind 3 r && (leb 0xf0000 (r .base) && leb (endOf r) 0x100000)
+    (ofKind 1 r || ofKind 2 r) && leb (r .size) kilobyte
+    || ofKind 3 r && (leb romStart (r .base) && leb (endOf r) romEnd)
     || ofKind 4 r
 
 -- "Bases are multiples of 16; base plus length is at most 2^32".
 unfoldable pub soundRegion : Region → Bool
-soundRegion r = kindRule r && eqb (r .base % 16) 0 && leb (endOf r) (2 ^ 32)
+soundRegion r = kindRule r && eqb (r .base % 16) 0 && leb (endOf r) memoryEnd
 
 -- ---- The rules of the regions together
 

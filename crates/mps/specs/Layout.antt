@@ -1,6 +1,6 @@
--- Layouts and limits: every offset, width and length of document 01 stands here, and nowhere else in the definitions.
+-- Layouts and limits: every offset, width, length and limit of document 01 stands here once.
 -- Document 01, "The floating pointer" and "The table"; MPS 4.1 to 4.4. Reserved bits and bytes have no name: they decide nothing.
-use Prim.Native.Nat.{ℕ, _+_, _/_, _%_}
+use Prim.Native.Nat.{ℕ, _+_, _/_, _%_, _^_}
 use mathlib.Core.Bool.{Bool, cond}
 use mathlib.Core.List.{List}
 use lib.ListN.{take}
@@ -21,6 +21,31 @@ regionsMost = 8
 -- "Base and extended are each at most 4,096 bytes"
 abbrev pub partMost : ℕ
 partMost = 4096
+
+-- "kinds 1 and 2 have at most 1,024 bytes"
+abbrev pub kilobyte : ℕ
+kilobyte = 1024
+
+-- "kind 3 has its base at F0000h or above and base plus length at most 100000h"
+abbrev pub romStart : ℕ
+romStart = 0xf0000
+
+abbrev pub romEnd : ℕ
+romEnd = 0x100000
+
+-- "base plus length is at most 2^32", of a region; "Base plus length is at most 2^64", of a 128 entry
+abbrev pub memoryEnd : ℕ
+memoryEnd = 2 ^ 32
+
+abbrev pub spaceEnd : ℕ
+spaceEnd = 2 ^ 64
+
+-- "local APIC address not a multiple of 4,096"; an I/O APIC's "not a multiple of 1,024"
+abbrev pub localApicStep : ℕ
+localApicStep = 4096
+
+abbrev pub ioApicStep : ℕ
+ioApicStep = 1024
 
 -- ---- The dump: "Byte 0 is the number of regions"; "nine bytes a region: kind (1), physical base (4), length (4)"
 

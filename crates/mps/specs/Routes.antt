@@ -7,7 +7,7 @@ use lib.Dec.{ltb, eqb}
 use Rattle.mps.specs.Words.{keep, joined, put}
 use Rattle.mps.specs.Refusals.{Rule, _when_, refusal}
 use Rattle.mps.specs.Layout.{Entry, ofType, idOf, interruptType, sourceBus, sourceIrq, destination, input, everyone, baseEntries}
-use Rattle.mps.specs.Rules.{Side, enabledOf, listed}
+use Rattle.mps.specs.Rules.{Side, enabledOf, isListed}
 use Rattle.mps.specs.Judge.{tableRules}
 use Rattle.mps.specs.Answers.{routedOf}
 use Rattle.mps.specs.declared.Routed.{Routed}
@@ -46,7 +46,7 @@ routesOf side t kind bus irq = routes side (baseEntries t) kind bus irq
 unfoldable pub routeRules : Side → List ℕ → ℕ → ℕ → ℕ → List ℕ → List Rule
 routeRules side t kind bus irq room =
     tableRules t
-    ++ (24 when (not (listed (baseEntries t) bus) || ltb 3 kind)
+    ++ (24 when (not (isListed (baseEntries t) bus) || ltb 3 kind)
     ∷ 19 when ltb (length room) (length (routesOf side t kind bus irq))
     ∷ [])
 

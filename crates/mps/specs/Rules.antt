@@ -1,6 +1,6 @@
 -- What the entries of a table must say: refusals 14 to 18. Document 01, the table of refusals; MPS 4.3 and 4.4.
 -- es are the base entries of a table and xs its extended entries, "rule by rule over the whole table".
-use Prim.Native.Nat.{ℕ, zero, suc, _+_, _%_, _^_}
+use Prim.Native.Nat.{ℕ, zero, suc, _+_, _%_}
 use mathlib.Core.Bool.{Bool, false, not, _||_}
 use mathlib.Core.List.{List, [], _∷_}
 use lib.ListN.{length}
@@ -8,7 +8,7 @@ use lib.Dec.{ltb, eqb}
 use Rattle.mps.specs.Words.{among, twice, keep, any, every, each}
 use Rattle.mps.specs.Buses.{isBusName}
 use Rattle.mps.specs.Layout.{Entry, ofType, processorType, busType, ioApicType, ioInterruptType, localInterruptType}
-use Rattle.mps.specs.Layout.{idOf, enabled, bootstrap, nameOf, addressOf, localApic, baseEntries, everyone}
+use Rattle.mps.specs.Layout.{localApicStep, ioApicStep, spaceEnd, idOf, enabled, bootstrap, nameOf, addressOf, localApic, baseEntries, everyone}
 use Rattle.mps.specs.Layout.{interruptType, polarity, trigger, sourceBus, destination, input}
 use Rattle.mps.specs.Layout.{mappingType, hierarchyType, modifierType, extendedBus, spaceKind, spaceBase, spaceLength, parentBus, rangeList}
 
@@ -33,7 +33,7 @@ bootstraps es = keep bootstrap (keep (ofType processorType) es)
 -- processor with ID 255 or another enabled one's ID"
 unfoldable pub wrongProcessors : List ℕ → Bool
 wrongProcessors t =
-    not (eqb (localApic t % 4096) 0)
+    not (eqb (localApic t % localApicStep) 0)
     || not (eqb (length (bootstraps (baseEntries t))) 1)
     || not (every enabled (bootstraps (baseEntries t)))
     || among everyone (enabledIds processorType (baseEntries t))
@@ -53,7 +53,7 @@ wrongBuses es = twice (idsOf busType es) || any unnamed (keep (ofType busType) e
 
 -- "address 0 or not a multiple of 1,024"
 unfoldable pub misplaced : Entry → Bool
-misplaced e = eqb (addressOf e) 0 || not (eqb (addressOf e % 1024) 0)
+misplaced e = eqb (addressOf e) 0 || not (eqb (addressOf e % ioApicStep) 0)
 
 unfoldable pub isAmong : List ℕ → ℕ → Bool
 isAmong ns n = among n ns
@@ -80,8 +80,8 @@ abbrev pub localSide : Side
 localSide = record { lines = localInterruptType; ends = processorType }
 
 -- "bus not listed" asks this of the buses that the base entries list.
-unfoldable pub listed : List Entry → ℕ → Bool
-listed es bus = among bus (idsOf busType es)
+unfoldable pub isListed : List Entry → ℕ → Bool
+isListed es bus = among bus (idsOf busType es)
 
 -- "interrupt type over 3; reserved polarity or trigger; bus not listed; destination neither 255 nor the ID of a listed
 -- I/O APIC (type 3) or processor (type 4), enabled or not"
@@ -90,7 +90,7 @@ wrongLine es ends e =
     ltb 3 (interruptType e)
     || eqb (polarity e) 2
     || eqb (trigger e) 2
-    || not (listed es (sourceBus e))
+    || not (isListed es (sourceBus e))
     || not (eqb (destination e) everyone || among (destination e) (idsOf ends es))
 
 -- "local input over 1"
@@ -108,15 +108,15 @@ wrongInterrupts es = wrongLines ioSide es || wrongLines localSide es || any wron
 -- A 128 entry: "extended bus .. not listed; kind over 2; range past 2^64".
 unfoldable pub wrongMapping : List Entry → Entry → Bool
 wrongMapping es e =
-    not (listed es (extendedBus e)) || ltb 2 (spaceKind e) || ltb (2 ^ 64) (spaceBase e + spaceLength e)
+    not (isListed es (extendedBus e)) || ltb 2 (spaceKind e) || ltb spaceEnd (spaceBase e + spaceLength e)
 
 -- A 129 entry: "extended bus or parent not listed".
 unfoldable pub wrongHierarchy : List Entry → Entry → Bool
-wrongHierarchy es e = not (listed es (extendedBus e)) || not (listed es (parentBus e))
+wrongHierarchy es e = not (isListed es (extendedBus e)) || not (isListed es (parentBus e))
 
 -- A 130 entry: "extended bus .. not listed; .. list over 1".
 unfoldable pub wrongModifier : List Entry → Entry → Bool
-wrongModifier es e = not (listed es (extendedBus e)) || ltb 1 (rangeList e)
+wrongModifier es e = not (isListed es (extendedBus e)) || ltb 1 (rangeList e)
 
 -- "Every type 129 entry is a link", with or without the subtractive bit.
 unfoldable pub links : List Entry → List Entry

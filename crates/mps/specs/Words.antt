@@ -88,9 +88,8 @@ module _ {A B : Type 0} where
   joined f [] = []
   joined f (x ∷ xs) = f x ++ joined f xs
 
--- A list of bytes cut into pieces. The length of each piece is told by the bytes from its first on; the
--- last piece is what is left, where that is shorter. The first argument but one counts the bytes of the
--- piece that are still to be passed, so `cut len 0 s` is the pieces of s.
+-- The pieces of a list of bytes are `cut len 0 s`: the bytes from the first of a piece on tell its length, and the last
+-- piece is what is left, where that is shorter. The number is how many bytes of a piece are still to be passed.
 unfoldable pub cut : (List ℕ → ℕ) → ℕ → List ℕ → List (List ℕ)
 cut len k [] = []
 cut len (suc k) (x ∷ xs) = cut len k xs
@@ -99,6 +98,12 @@ cut len zero (x ∷ xs) = take (len (x ∷ xs)) (x ∷ xs) ∷ cut len (pred (le
 -- The part of a list from one place up to another, as `&s[from..to]` is.
 abbrev pub part : ℕ → ℕ → List ℕ → List ℕ
 part from to s = take (to - from) (drop from s)
+
+-- So many bytes of a list from its first on, 0 past its end.
+unfoldable pub exactly : ℕ → List ℕ → List ℕ
+exactly zero s = []
+exactly (suc k) [] = 0 ∷ exactly k []
+exactly (suc k) (x ∷ xs) = x ∷ exactly k xs
 
 -- What a room holds once an answer stands at its first byte: "what lies past them stays".
 abbrev pub put : List ℕ → List ℕ → List ℕ

@@ -4,7 +4,7 @@ use mathlib.Core.Bool.{cond}
 use mathlib.Core.List.{List, [], _∷_, _++_}
 use lib.ListN.{length, replicate}
 use lib.Dec.{ltb, eqb}
-use Rattle.mps.specs.Words.{text, cut, put, first}
+use Rattle.mps.specs.Words.{text, cut, exactly, put, first}
 use Rattle.mps.specs.Refusals.{_when_, refusal}
 use Rattle.mps.specs.Sums.{sum256, toStore}
 use Rattle.mps.specs.Numbers.{bytes}
@@ -45,7 +45,7 @@ baseSize p = headerSize + length (p .base)
 abbrev pub countOf : Parts → ℕ
 countOf p = length (cut baseEntryLength 0 (p .base))
 
--- The header, field by field in the order of Table 4-2, with its two checksums given.
+-- The header, 44 bytes: field by field in the order of Table 4-2, with its two checksums given.
 unfoldable pub header : Parts → ℕ → ℕ → List ℕ
 unfolding text
 header p baseSum extendedSum =
@@ -53,8 +53,8 @@ header p baseSum extendedSum =
     ++ (bytes 2 (baseSize p)
     ++ (4
     ∷ baseSum
-    ∷ (p .fields .oem
-    ++ (p .fields .model
+    ∷ (exactly 8 (p .fields .oem)
+    ++ (exactly 12 (p .fields .model)
     ++ (bytes 4 (p .fields .pointer)
     ++ (bytes 2 (p .fields .size)
     ++ (bytes 2 (countOf p)

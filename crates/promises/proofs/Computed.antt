@@ -1,7 +1,7 @@
--- Computing with the definitions: `unfolding computed` opens every definition of mps and every part of the board at once,
--- so that a claim over closed bytes is settled by computing both sides.
+-- Computing with the definitions: `unfolding computed` opens every definition of mps at once, so that a claim over closed
+-- bytes is settled by computing both sides. A definition's own `unfolding` line is what is opened with it.
 use Prim.Native.Nat.{ℕ}
-use Rattle.mps.specs.Words.{text, bit, same, among, twice, keep, any, every, each, joined, cut}
+use Rattle.mps.specs.Words.{text, bit, same, among, twice, keep, any, every, each, joined, cut, exactly}
 use Rattle.mps.specs.Refusals.{refusal}
 use Rattle.mps.specs.Sums.{total, sum256, toStore}
 use Rattle.mps.specs.Numbers.{le, bytes}
@@ -11,16 +11,87 @@ use Rattle.mps.specs.Layout.{baseEntryLength, baseEntries, extendedEntries, own
 use Rattle.mps.specs.Dump.{regionsFrom, regions, kindRule, soundRegion, share, overlap, kindTwice, endsWithLast, soundDump, holds, holding}
 use Rattle.mps.specs.Pointer.{addressed, candidates, good, searched, pointers, pointer, isDefault, noPointer, wrongPointerRevision, wrongFeature, tableStart, tableEnd, tableIn}
 use Rattle.mps.specs.Table.{headerCut, unsigned, wrongBaseLength, wrongBaseSum, wrongRevision, entryFault, walkFrom, walkFault, wrongType, cutOrMiscounted, descendingType, extendedFault, extendedFrom, wrongExtended}
-use Rattle.mps.specs.Rules.{enabledOf, idsOf, enabledIds, bootstraps, wrongProcessors, unnamed, wrongBuses, misplaced, isAmong, wrongIoApics, listed, wrongLine, wrongInput, wrongLines, wrongInterrupts, wrongMapping, wrongHierarchy, wrongModifier, links, parentsOf, climbsTo, onCircle, circle, wrongSpaces}
+use Rattle.mps.specs.Rules.{enabledOf, idsOf, enabledIds, bootstraps, wrongProcessors, unnamed, wrongBuses, misplaced, isAmong, wrongIoApics, isListed, wrongLine, wrongInput, wrongLines, wrongInterrupts, wrongMapping, wrongHierarchy, wrongModifier, links, parentsOf, climbsTo, onCircle, circle, wrongSpaces}
 use Rattle.mps.specs.Judge.{tableRules, tableRefusal, pointerRules, dumpRules, dumpRefusal, judged, holdsOf, held}
 use Rattle.mps.specs.Routes.{asksFor, names, pair, pairsTo, routes, routesOf, routeRules, routeRefusal, routed, routesLeft}
 use Rattle.mps.specs.Addresses.{covers, touches, takesAway, adds, coversOrAdds, declares, subtractive, says, climb, seenBy, addressRules, seen}
-use Rattle.mps.specs.Listing.{digits, decimalDigit, hexDigit, decimalWidth, decimal, hex, line, unpadded, onOff, bootAp, interruptName, cpuLine, busLine, ioApicLine, interruptLine, baseLine, mapLine, treeLine, modLine, skipLine, extendedLine, defaultLine, pointerLine, tableLine, endLine, tableLines, listing, refusedLine, listRefusal, listed as Listing·listed, listLeft}
+use Rattle.mps.specs.Listing.{digits, decimalDigit, hexDigit, decimalWidth, decimal, hex, line, unpadded, onOff, bootAp, interruptName, cpuLine, busLine, ioApicLine, interruptLine, baseLine, mapLine, treeLine, modLine, skipLine, extendedLine, defaultLine, pointerLine, tableLine, endLine, tableLines, listing, refusedLine, listRefusal, listed, listLeft}
 use Rattle.mps.specs.Writing.{fieldsOf, partsOf, header, extendedSumOf, baseSumOf, image, unwritten, writeRefusal, written, writeLeft}
 use Rattle.mps.specs.Edits.{standing, offsetOf, sealed, editedTable, noPlace, otherShape, changed, innerRefusal, editRules, editRefusal, edited, editLeft, run}
 use Rattle.mps.specs.Reader.{baseStep, extendedStep, entrySize, entryAt, nextPlace, found}
-use Rattle.promises.specs.Board.{contents, pointer as Board·pointer, header as Board·header, processor, bus, ioApic, interrupt, localInterrupt, table, dump, bareHeader}
+
+ofWords : ℕ
+unfolding text bit same among twice keep any every each joined cut exactly
+ofWords = 0
+
+ofRefusals : ℕ
+unfolding refusal
+ofRefusals = 0
+
+ofSums : ℕ
+unfolding total sum256 toStore
+ofSums = 0
+
+ofNumbers : ℕ
+unfolding le bytes
+ofNumbers = 0
+
+ofBuses : ℕ
+unfolding busNames isBusName
+ofBuses = 0
+
+ofRanges : ℕ
+unfolding isa vga rangesAt inList printedIsa printedVga
+ofRanges = 0
+
+ofLayout : ℕ
+unfolding baseEntryLength baseEntries extendedEntries ownLength
+ofLayout = 0
+
+ofDump : ℕ
+unfolding regionsFrom regions kindRule soundRegion share overlap kindTwice endsWithLast soundDump holds holding
+ofDump = 0
+
+ofPointer : ℕ
+unfolding addressed candidates good searched pointers pointer isDefault noPointer wrongPointerRevision wrongFeature tableStart tableEnd tableIn
+ofPointer = 0
+
+ofTable : ℕ
+unfolding headerCut unsigned wrongBaseLength wrongBaseSum wrongRevision entryFault walkFrom walkFault wrongType cutOrMiscounted descendingType extendedFault extendedFrom wrongExtended
+ofTable = 0
+
+ofRules : ℕ
+unfolding enabledOf idsOf enabledIds bootstraps wrongProcessors unnamed wrongBuses misplaced isAmong wrongIoApics isListed wrongLine wrongInput wrongLines wrongInterrupts wrongMapping wrongHierarchy wrongModifier links parentsOf climbsTo onCircle circle wrongSpaces
+ofRules = 0
+
+ofJudge : ℕ
+unfolding tableRules tableRefusal pointerRules dumpRules dumpRefusal judged holdsOf held
+ofJudge = 0
+
+ofRoutes : ℕ
+unfolding asksFor names pair pairsTo routes routesOf routeRules routeRefusal routed routesLeft
+ofRoutes = 0
+
+ofAddresses : ℕ
+unfolding covers touches takesAway adds coversOrAdds declares subtractive says climb seenBy addressRules seen
+ofAddresses = 0
+
+ofListing : ℕ
+unfolding digits decimalDigit hexDigit decimalWidth decimal hex line unpadded onOff bootAp interruptName cpuLine busLine ioApicLine interruptLine baseLine mapLine treeLine modLine skipLine extendedLine defaultLine pointerLine tableLine endLine tableLines listing refusedLine listRefusal listed listLeft
+ofListing = 0
+
+ofWriting : ℕ
+unfolding fieldsOf partsOf header extendedSumOf baseSumOf image unwritten writeRefusal written writeLeft
+ofWriting = 0
+
+ofEdits : ℕ
+unfolding standing offsetOf sealed editedTable noPlace otherShape changed innerRefusal editRules editRefusal edited editLeft run
+ofEdits = 0
+
+ofReader : ℕ
+unfolding baseStep extendedStep entrySize entryAt nextPlace found
+ofReader = 0
 
 unfoldable pub computed : ℕ
-unfolding text bit same among twice keep any every each joined cut refusal total sum256 toStore le bytes busNames isBusName isa vga rangesAt inList printedIsa printedVga baseEntryLength baseEntries extendedEntries ownLength regionsFrom regions kindRule soundRegion share overlap kindTwice endsWithLast soundDump holds holding addressed candidates good searched pointers pointer isDefault noPointer wrongPointerRevision wrongFeature tableStart tableEnd tableIn headerCut unsigned wrongBaseLength wrongBaseSum wrongRevision entryFault walkFrom walkFault wrongType cutOrMiscounted descendingType extendedFault extendedFrom wrongExtended enabledOf idsOf enabledIds bootstraps wrongProcessors unnamed wrongBuses misplaced isAmong wrongIoApics listed wrongLine wrongInput wrongLines wrongInterrupts wrongMapping wrongHierarchy wrongModifier links parentsOf climbsTo onCircle circle wrongSpaces tableRules tableRefusal pointerRules dumpRules dumpRefusal judged holdsOf held asksFor names pair pairsTo routes routesOf routeRules routeRefusal routed routesLeft covers touches takesAway adds coversOrAdds declares subtractive says climb seenBy addressRules seen digits decimalDigit hexDigit decimalWidth decimal hex line unpadded onOff bootAp interruptName cpuLine busLine ioApicLine interruptLine baseLine mapLine treeLine modLine skipLine extendedLine defaultLine pointerLine tableLine endLine tableLines listing refusedLine listRefusal Listing·listed listLeft fieldsOf partsOf header extendedSumOf baseSumOf image unwritten writeRefusal written writeLeft standing offsetOf sealed editedTable noPlace otherShape changed innerRefusal editRules editRefusal edited editLeft run baseStep extendedStep entrySize entryAt nextPlace found contents Board·pointer Board·header processor bus ioApic interrupt localInterrupt table dump bareHeader
+unfolding ofWords ofRefusals ofSums ofNumbers ofBuses ofRanges ofLayout ofDump ofPointer ofTable ofRules ofJudge ofRoutes ofAddresses ofListing ofWriting ofEdits ofReader
 computed = 0

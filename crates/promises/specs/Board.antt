@@ -4,44 +4,44 @@ use mathlib.Core.List.{List, [], _∷_, _++_}
 use lib.ListN.{replicate}
 
 -- "Dump, 122 bytes": one region, kind 3, base F0000h, length 112.
-unfoldable pub contents : List ℕ
+abbrev pub contents : List ℕ
 contents = 0x01 ∷ 0x03 ∷ 0x00 ∷ 0x00 ∷ 0x0f ∷ 0x00 ∷ 0x70 ∷ 0x00 ∷ 0x00 ∷ 0x00 ∷ []
 
-unfoldable pub pointer : List ℕ
+abbrev pub pointer : List ℕ
 pointer =
     0x5f ∷ 0x4d ∷ 0x50 ∷ 0x5f ∷ 0x10 ∷ 0x00 ∷ 0x0f ∷ 0x00 ∷ 0x01 ∷ 0x04 ∷ 0x81 ∷ 0x00 ∷ 0x00 ∷ 0x00 ∷ 0x00 ∷ 0x00 ∷ []
 
-unfoldable pub header : List ℕ
+abbrev pub header : List ℕ
 header =
     (0x50 ∷ 0x43 ∷ 0x4d ∷ 0x50 ∷ 0x60 ∷ 0x00 ∷ 0x04 ∷ 0xc0 ∷ [])
     ++ (replicate 20 0x20
     ++ (0x00 ∷ 0x00 ∷ 0x00 ∷ 0x00 ∷ 0x00 ∷ 0x00 ∷ 0x05 ∷ 0x00 ∷ 0x00 ∷ 0x00 ∷ 0xe0 ∷ 0xfe ∷ 0x00 ∷ 0x00 ∷ 0x00 ∷ 0x00 ∷ []))
 
-unfoldable pub processor : List ℕ
+abbrev pub processor : List ℕ
 processor = (0x00 ∷ 0x00 ∷ 0x10 ∷ 0x03 ∷ 0x12 ∷ 0x05 ∷ 0x00 ∷ 0x00 ∷ []) ++ replicate 12 0
 
-unfoldable pub bus : List ℕ
+abbrev pub bus : List ℕ
 bus = 0x01 ∷ 0x00 ∷ 0x49 ∷ 0x53 ∷ 0x41 ∷ 0x20 ∷ 0x20 ∷ 0x20 ∷ []
 
-unfoldable pub ioApic : List ℕ
+abbrev pub ioApic : List ℕ
 ioApic = 0x02 ∷ 0x02 ∷ 0x11 ∷ 0x01 ∷ 0x00 ∷ 0x00 ∷ 0xc0 ∷ 0xfe ∷ []
 
-unfoldable pub interrupt : List ℕ
+abbrev pub interrupt : List ℕ
 interrupt = 0x03 ∷ 0x00 ∷ 0x00 ∷ 0x00 ∷ 0x00 ∷ 0x01 ∷ 0x02 ∷ 0x01 ∷ []
 
-unfoldable pub localInterrupt : List ℕ
+abbrev pub localInterrupt : List ℕ
 localInterrupt = 0x04 ∷ 0x03 ∷ 0x00 ∷ 0x00 ∷ 0x00 ∷ 0x00 ∷ 0xff ∷ 0x00 ∷ []
 
 -- The bare table, 96 bytes.
-unfoldable pub table : List ℕ
+abbrev pub table : List ℕ
 table = header ++ (processor ++ (bus ++ (ioApic ++ (interrupt ++ localInterrupt))))
 
 -- The dump.
-unfoldable pub dump : List ℕ
+abbrev pub dump : List ℕ
 dump = contents ++ (pointer ++ table)
 
 -- P12's "sound header of length 44, no entries": the board's header with that length and count, and the sum for them.
-unfoldable pub bareHeader : List ℕ
+abbrev pub bareHeader : List ℕ
 bareHeader =
     (0x50 ∷ 0x43 ∷ 0x4d ∷ 0x50 ∷ 0x2c ∷ 0x00 ∷ 0x04 ∷ 0x42 ∷ [])
     ++ (replicate 20 0x20
