@@ -49,24 +49,25 @@ subtractive bus e = onBus bus e && subtractiveBit e
 -- ---- What a bus says: "first that applies"
 
 pub data Say : Type 0 where
-  no yes parent nothing : Say
+  no yes parent undeclared : Say
 
 unfoldable pub says : List Entry → ℕ → ℕ → ℕ → Say
 says xs bus kind address =
     cond (any (takesAway bus kind address) xs) Say.no
     (cond (any (coversOrAdds bus kind address) xs) Say.yes
     (cond (any (subtractive bus) (links xs)) Say.parent
-    (cond (any (declares bus) xs) Say.no Say.nothing)))
+    (cond (any (declares bus) xs) Say.no Say.undeclared)))
 
 -- A bus's own answer, with the links climbed to it, or what its parent answers.
 abbrev pub answer : Say → ℕ → Seen → Seen
 answer Say.no climbed above = No climbed
 answer Say.yes climbed above = Yes climbed
 answer Say.parent climbed above = above
-answer Say.nothing climbed above = Undeclared climbed
+answer Say.undeclared climbed above = Undeclared climbed
 
 -- "the parent's answer, if the bus has the subtractive bit": a climb through the type 129 entries. The falling number is
--- the listed buses not visited yet; where none is left there is no parent to ask.
+-- the listed buses not visited yet. In an accepted table it does not run out while there is a parent to ask (crate laws,
+-- climbs-listed), and a bus with the subtractive bit has a parent; else the answer would be undeclared.
 unfoldable pub climb : ℕ → List Entry → ℕ → ℕ → ℕ → ℕ → Seen
 climb zero xs bus kind address climbed = answer (says xs bus kind address) climbed (Undeclared climbed)
 climb (suc left) xs bus kind address climbed =

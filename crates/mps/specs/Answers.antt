@@ -1,5 +1,6 @@
 -- The answers as numbers. Document 01: "Where an answer is an enum, a definition gives this paper's number and values for
--- each of its cases. The promises use this definition." First the refusal's number, 0 where there is none; then the values.
+-- each of its cases. The promises use this definition." First the refusal's number, 0 where there is none; then the values,
+-- in the order in which the enum has them.
 use Prim.Native.Nat.{ℕ, zero, suc}
 use mathlib.Core.Bool.{cond}
 use mathlib.Core.List.{List, [], _∷_}
@@ -17,7 +18,7 @@ use Rattle.mps.specs.declared.Seen.the-variants.{No, Yes, Undeclared, Re
 use Rattle.mps.specs.declared.Edited.{Edited}
 use Rattle.mps.specs.declared.Edited.the-variants.{Done, Refused as Edited·Refused, Inner}
 use Rattle.mps.specs.declared.Found.{Found}
-use Rattle.mps.specs.declared.Found.the-variants.{Entry, Nothing}
+use Rattle.mps.specs.declared.Found.the-variants.{Whole, Nothing}
 
 -- ---- From an enum to the paper's numbers
 
@@ -25,6 +26,7 @@ abbrev pub judgedNumbers : Judged → List ℕ
 judgedNumbers Accepted = 0 ∷ []
 judgedNumbers (Judged·Refused n) = n ∷ []
 
+-- A default has two values and a table five.
 abbrev pub heldNumbers : Held → List ℕ
 heldNumbers (Default number imcr) = 0 ∷ number ∷ imcr ∷ []
 heldNumbers (Table pointer imcr address start end) = 0 ∷ pointer ∷ imcr ∷ address ∷ start ∷ end ∷ []
@@ -51,9 +53,10 @@ editedNumbers Done = 0 ∷ []
 editedNumbers (Edited·Refused n) = n ∷ []
 editedNumbers (Inner n) = 23 ∷ n ∷ []
 
+-- The reader refuses nothing: the length of the entry, 0 where there is none.
 abbrev pub foundNumbers : Found → List ℕ
-foundNumbers (Entry size) = 0 ∷ size ∷ []
-foundNumbers Nothing = []
+foundNumbers (Whole size) = 0 ∷ size ∷ []
+foundNumbers Nothing = 0 ∷ 0 ∷ []
 
 -- ---- From a refusal's number, 0 for none, to an enum
 
@@ -83,4 +86,4 @@ editedOf (suc n) inner = cond (eqb (suc n) 23) (Inner inner) (Edited·Refused (s
 
 abbrev pub foundOf : ℕ → Found
 foundOf zero = Nothing
-foundOf (suc n) = Entry (suc n)
+foundOf (suc n) = Whole (suc n)

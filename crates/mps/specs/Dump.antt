@@ -4,8 +4,7 @@ use mathlib.Core.Bool.{Bool, false, not, _||_, _&&_}
 use mathlib.Core.List.{List, [], _∷_}
 use lib.ListN.{length, drop}
 use lib.Dec.{leb, ltb, eqb}
-use Rattle.mps.specs.Words.{part, keep, any, every, each, head, twice}
-use Rattle.mps.specs.Ranges.{within}
+use Rattle.mps.specs.Words.{part, keep, any, every, each, head, twice, within}
 use Rattle.mps.specs.Sums.{total}
 use Rattle.mps.specs.Layout.{dumpMost, regionsMost, kilobyte, romStart, romEnd, memoryEnd, regionCount, rowLength, rowKind, rowBase, rowSize}
 
@@ -16,7 +15,7 @@ pub record Region : Type 0 where
   pub offset : ℕ
   pub size : ℕ
 
--- Where a region ends: "Base plus length is the sum of the numbers", with no wrap.
+-- Where a region ends: "base plus length", the sum of the numbers with no wrap at 2^32.
 abbrev pub endOf : Region → ℕ
 endOf r = r .base + r .size
 

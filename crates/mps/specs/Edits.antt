@@ -80,8 +80,12 @@ edited t e = editedOf (editRefusal t e) (innerRefusal t e)
 unfoldable pub editLeft : List ℕ → Edit → List ℕ
 editLeft t e = cond (eqb (editRefusal t e) 0) (editedTable t e) t
 
--- ---- "Over any run of edits": what a run leaves, accepted and refused edits mixed
+-- ---- A run of edits, accepted and refused mixed: what it leaves, and its answers in their order
 
 unfoldable pub run : List ℕ → List Edit → List ℕ
 run t [] = t
 run t (e ∷ es) = run (editLeft t e) es
+
+unfoldable pub runAnswers : List ℕ → List Edit → List Edited
+runAnswers t [] = []
+runAnswers t (e ∷ es) = edited t e ∷ runAnswers (editLeft t e) es

@@ -11,14 +11,14 @@ use Rattle.mps.specs.declared.Held.{Held}
 use Rattle.mps.specs.declared.Held.the-variants.{Default, Table}
 use Rattle.mps.specs.Dump.{soundDump}
 use Rattle.mps.specs.Pointer.{noPointer, wrongPointerRevision, wrongFeature, isDefault, pointer, pointerBytes, tableAddress, tableStart, tableEnd, tableIn}
-use Rattle.mps.specs.Table.{headerCut, unsigned, wrongBaseLength, wrongBaseSum, wrongRevision, wrongType, cutOrMiscounted, descendingType, wrongExtended}
+use Rattle.mps.specs.Table.{headerCut, wrongSignature, wrongBaseLength, wrongBaseSum, wrongRevision, wrongType, cutOrMiscounted, descendingType, wrongExtended}
 use Rattle.mps.specs.Rules.{wrongProcessors, wrongBuses, wrongIoApics, wrongInterrupts, wrongSpaces}
 
 -- 5 to 18: "A bare table in a lent buffer is judged as one region holding the buffer".
 unfoldable pub tableRules : List ℕ → List Rule
 tableRules t =
     5 when headerCut t
-    ∷ 6 when unsigned t
+    ∷ 6 when wrongSignature t
     ∷ 7 when wrongBaseLength t
     ∷ 8 when wrongBaseSum t
     ∷ 9 when wrongRevision t

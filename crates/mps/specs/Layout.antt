@@ -1,4 +1,5 @@
--- Layouts and limits: every offset, width, length and limit of document 01 stands here once.
+-- Layouts and limits: every offset, width, length and limit of document 01 stands here once. (The writer's header, in
+-- specs/Writing.antt, lays the same fields one behind the other; that the two agree is its round trip.)
 -- Document 01, "The floating pointer" and "The table"; MPS 4.1 to 4.4. Reserved bits and bytes have no name: they decide nothing.
 use Prim.Native.Nat.{ℕ, _+_, _/_, _%_, _^_}
 use mathlib.Core.Bool.{Bool, cond}
@@ -39,6 +40,10 @@ memoryEnd = 2 ^ 32
 
 abbrev pub spaceEnd : ℕ
 spaceEnd = 2 ^ 64
+
+-- "pointer revision not 4", "table revision not 4", "the revision it writes is 4"
+abbrev pub specRevision : ℕ
+specRevision = 4
 
 -- "local APIC address not a multiple of 4,096"; an I/O APIC's "not a multiple of 1,024"
 abbrev pub localApicStep : ℕ
@@ -109,8 +114,8 @@ checksumAt = 7
 abbrev pub oemId : List ℕ → List ℕ
 oemId t = part 8 16 t
 
-abbrev pub product : List ℕ → List ℕ
-product t = part 16 28 t
+abbrev pub productOf : List ℕ → List ℕ
+productOf t = part 16 28 t
 
 abbrev pub oemPointer : List ℕ → ℕ
 oemPointer t = le 4 t 28
@@ -177,7 +182,7 @@ baseEntries t = cut baseEntryLength 0 (basePart t)
 unfoldable pub extendedEntries : List ℕ → List Entry
 extendedEntries t = cut extendedEntryLength 0 (extendedPart t)
 
--- ---- Base entries, MPS Tables 4-3, 4-4, 4-7, 4-9, 4-10 and 4-12
+-- ---- Base entries, MPS Tables 4-3, 4-4, 4-7 and 4-9 to 4-12
 
 abbrev pub processorType : ℕ
 processorType = 0
@@ -193,6 +198,10 @@ ioInterruptType = 3
 
 abbrev pub localInterruptType : ℕ
 localInterruptType = 4
+
+-- "base type over 4"
+abbrev pub lastBaseType : ℕ
+lastBaseType = 4
 
 -- The ID of a processor, a bus or an I/O APIC.
 abbrev pub idOf : Entry → ℕ
@@ -246,6 +255,13 @@ abbrev pub everyone : ℕ
 everyone = 255
 
 -- ---- Extended entries, MPS Tables 4-13 to 4-16
+
+-- "types .. at least 128, length in byte 1 (at least 2)"
+abbrev pub firstExtendedType : ℕ
+firstExtendedType = 128
+
+abbrev pub leastLength : ℕ
+leastLength = 2
 
 abbrev pub mappingType : ℕ
 mappingType = 128

@@ -1,5 +1,6 @@
 pub mod Words
 pub mod Refusals
+pub mod Answers
 pub mod Sums
 pub mod Numbers
 pub mod Buses
@@ -10,7 +11,6 @@ pub mod Pointer
 pub mod Table
 pub mod Rules
 pub mod Judge
-pub mod Answers
 pub mod Routes
 pub mod Addresses
 pub mod Listing

@@ -12,7 +12,7 @@ use Rattle.mps.specs.Layout.{idOf, version, enabled, bootstrap, nameOf, 
 use Rattle.mps.specs.Layout.{interruptType, sourceBus, sourceIrq, polarity, trigger, destination, input}
 use Rattle.mps.specs.Layout.{extendedBus, spaceKind, spaceBase, spaceLength, parentBus, subtractiveBit, takesBit, rangeList}
 use Rattle.mps.specs.Pointer.{pointer, pointerBytes, isDefault, tableAddress, tableIn}
-use Rattle.mps.specs.Judge.{dumpRules}
+use Rattle.mps.specs.Judge.{dumpRules, dumpRefusal}
 use Rattle.mps.specs.Answers.{writtenOf}
 use Rattle.mps.specs.declared.Written.{Written}
 
@@ -170,6 +170,10 @@ listing d =
 unfoldable pub refusedLine : ℕ → List ℕ
 unfolding text
 refusedLine n = line (text "refused") (decimal n ∷ [])
+
+-- All that the listing program writes for what it read: "A refusal or default is the only line."
+unfoldable pub programOutput : List ℕ → List ℕ
+programOutput d = cond (eqb (dumpRefusal d) 0) (listing d) (refusedLine (dumpRefusal d))
 
 -- ---- The call: "the listing tests 1 to 18, then 19"
 

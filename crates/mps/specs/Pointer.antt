@@ -6,7 +6,7 @@ use lib.ListN.{length}
 use lib.Dec.{ltb, eqb}
 use Rattle.mps.specs.Words.{text, same, part, cut, only, keep, any, none, head, joined}
 use Rattle.mps.specs.Sums.{sum256}
-use Rattle.mps.specs.Layout.{pointerSize, pointerSignature, pointerTable, pointerParagraphs, pointerRevision, feature1}
+use Rattle.mps.specs.Layout.{specRevision, pointerSize, pointerSignature, pointerTable, pointerParagraphs, pointerRevision, feature1}
 use Rattle.mps.specs.Dump.{Region, regions, body, ofKind, holding}
 
 -- Sixteen bytes that may be a pointer, and their address.
@@ -58,7 +58,7 @@ pointerBytes d = pointer d .bytes
 abbrev pub tableAddress : List ℕ → ℕ
 tableAddress d = pointerTable (pointerBytes d)
 
--- "Feature byte 1 at 1 to 7 with address 0 answers 'default configuration n'."
+-- Feature byte 1 is not 0: once 4 has been tested, "1 to 7 with address 0", which "answers 'default configuration n'".
 unfoldable pub isDefault : List ℕ → Bool
 isDefault d = ltb 0 (feature1 (pointerBytes d))
 
@@ -70,7 +70,7 @@ noPointer d = none (pointers d)
 
 -- 3: "pointer revision not 4"
 unfoldable pub wrongPointerRevision : List ℕ → Bool
-wrongPointerRevision d = not (eqb (pointerRevision (pointerBytes d)) 4)
+wrongPointerRevision d = not (eqb (pointerRevision (pointerBytes d)) specRevision)
 
 -- 4: "feature byte over 7; 1 to 7 with nonzero address; 0 with address 0"
 unfoldable pub wrongFeature : List ℕ → Bool
@@ -79,7 +79,8 @@ wrongFeature d =
     || isDefault d && not (eqb (tableAddress d) 0)
     || not (isDefault d) && eqb (tableAddress d) 0
 
--- ---- The table: the bytes from its address to the end of the region that holds it, and none where no region does
+-- ---- The table: the bytes from its address to the end of the region that holds it. Where no region does, the part from
+-- that address up to 0 is empty.
 
 abbrev pub tableRegion : List ℕ → Region
 tableRegion d = holding (tableAddress d) (regions d)

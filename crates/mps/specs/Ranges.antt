@@ -1,12 +1,8 @@
 -- The predefined ranges of I/O addresses. Document 01, "Routes and addresses"; MPS Table 4-17.
 use Prim.Native.Nat.{ℕ, _+_, _*_, _%_}
 use mathlib.Core.Bool.{Bool, _||_, _&&_}
-use lib.Dec.{leb, ltb, eqb}
-use Rattle.mps.specs.Words.{flag}
-
--- Whether a number lies between two, both counted.
-abbrev pub within : ℕ → ℕ → ℕ → Bool
-within low high n = leb low n && leb n high
+use lib.Dec.{ltb, eqb}
+use Rattle.mps.specs.Words.{flag, within}
 
 -- "ISA when the low ten bits are 100h to 3FFh".
 unfoldable pub isa : ℕ → Bool
@@ -16,7 +12,8 @@ isa address = within 0x100 0x3ff (address % 1024)
 unfoldable pub vga : ℕ → Bool
 vga address = within 0x3b0 0x3bb (address % 1024) || within 0x3c0 0x3df (address % 1024)
 
--- "A table of 1,024 places for the low ten address bits": what it must hold, bit 0 for ISA and bit 1 for VGA.
+-- "A table of 1,024 places for the low ten address bits": what the constant table of the crate tables must hold, bit 0 for
+-- ISA and bit 1 for VGA.
 unfoldable pub rangesAt : ℕ → ℕ
 rangesAt place = flag (isa place) + 2 * flag (vga place)
 
@@ -28,7 +25,8 @@ modifiedBelow = 65536
 unfoldable pub inList : ℕ → ℕ → Bool
 inList list address = ltb address modifiedBelow && (eqb list 0 && isa address || eqb list 1 && vga address)
 
--- The ranges as Intel prints them, over the low twelve bits of an address: X is any digit.
+-- The ranges as Intel prints them, over the low twelve bits of an address: X is any digit. That they are the same at every
+-- address is proved beside the constant table (crate tables, isa-printed and vga-printed).
 unfoldable pub printedIsa : ℕ → Bool
 printedIsa x = within 0x100 0x3ff x || within 0x500 0x7ff x || within 0x900 0xbff x || within 0xd00 0xfff x
 

@@ -5,7 +5,7 @@ use mathlib.Core.Bool.{cond, _||_, _&&_}
 use mathlib.Core.List.{List}
 use lib.ListN.{length, take, drop}
 use lib.Dec.{leb, ltb}
-use Rattle.mps.specs.Layout.{Entry, headerSize, baseLength, extendedEnd, type, baseEntryLength, extendedEntryLength}
+use Rattle.mps.specs.Layout.{Entry, lastBaseType, firstExtendedType, leastLength, headerSize, baseLength, extendedEnd, type, baseEntryLength, extendedEntryLength}
 use Rattle.mps.specs.Answers.{foundOf}
 use Rattle.mps.specs.declared.Found.{Found}
 
@@ -18,11 +18,11 @@ readExtendedEnd t = min (extendedEnd t) (length t)
 
 -- "From 44 to the base end an entry has its type's length": 0 for a type that has none.
 unfoldable pub baseStep : List ℕ → ℕ
-baseStep s = cond (leb (type s) 4) (baseEntryLength s) 0
+baseStep s = cond (leb (type s) lastBaseType) (baseEntryLength s) 0
 
 -- ".. from there to the extended end its length byte's, with type at least 128 and length at least 2".
 unfoldable pub extendedStep : List ℕ → ℕ
-extendedStep s = cond (leb 128 (type s) && leb 2 (extendedEntryLength s)) (extendedEntryLength s) 0
+extendedStep s = cond (leb firstExtendedType (type s) && leb leastLength (extendedEntryLength s)) (extendedEntryLength s) 0
 
 -- The length of an entry that stands whole before an end, else 0.
 abbrev pub whole : ℕ → ℕ → ℕ → ℕ

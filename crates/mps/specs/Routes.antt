@@ -12,10 +12,10 @@ use Rattle.mps.specs.Judge.{tableRules}
 use Rattle.mps.specs.Answers.{routedOf}
 use Rattle.mps.specs.declared.Routed.{Routed}
 
--- Whether an entry of a side is for an interrupt type, a bus and an IRQ: the whole byte of each.
-unfoldable pub asksFor : Side → ℕ → ℕ → ℕ → Entry → Bool
-asksFor side kind bus irq e =
-    ofType (side .lines) e && eqb (interruptType e) kind && eqb (sourceBus e) bus && eqb (sourceIrq e) irq
+-- Whether an interrupt entry of a side has this interrupt type, source bus and source IRQ, each byte for byte.
+unfoldable pub matches : Side → ℕ → ℕ → ℕ → Entry → Bool
+matches side kind bus irq e =
+    ofType (side .interrupts) e && eqb (interruptType e) kind && eqb (sourceBus e) bus && eqb (sourceIrq e) irq
 
 -- Whether an interrupt entry names an APIC: "255 names all".
 unfoldable pub names : Entry → Entry → Bool
@@ -34,7 +34,7 @@ pairsTo apics e = joined (pair e) (keep (names e) apics)
 
 -- "entries in table order": the bytes of all the pairs.
 unfoldable pub routes : Side → List Entry → ℕ → ℕ → ℕ → List ℕ
-routes side es kind bus irq = joined (pairsTo (enabledOf (side .ends) es)) (keep (asksFor side kind bus irq) es)
+routes side es kind bus irq = joined (pairsTo (enabledOf (side .targets) es)) (keep (matches side kind bus irq) es)
 
 -- The pairs of a table for a query.
 unfoldable pub routesOf : Side → List ℕ → ℕ → ℕ → ℕ → List ℕ

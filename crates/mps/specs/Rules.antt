@@ -1,11 +1,11 @@
 -- What the entries of a table must say: refusals 14 to 18. Document 01, the table of refusals; MPS 4.3 and 4.4.
--- es are the base entries of a table and xs its extended entries, "rule by rule over the whole table".
+-- es are the base entries of a table and xs its extended entries: each rule is tested over the whole table.
 use Prim.Native.Nat.{ℕ, zero, suc, _+_, _%_}
 use mathlib.Core.Bool.{Bool, false, not, _||_}
 use mathlib.Core.List.{List, [], _∷_}
 use lib.ListN.{length}
 use lib.Dec.{ltb, eqb}
-use Rattle.mps.specs.Words.{among, twice, keep, any, every, each}
+use Rattle.mps.specs.Words.{among, twice, common, keep, any, every, each}
 use Rattle.mps.specs.Buses.{isBusName}
 use Rattle.mps.specs.Layout.{Entry, ofType, processorType, busType, ioApicType, ioInterruptType, localInterruptType}
 use Rattle.mps.specs.Layout.{localApicStep, ioApicStep, spaceEnd, idOf, enabled, bootstrap, nameOf, addressOf, localApic, baseEntries, everyone}
@@ -42,12 +42,12 @@ wrongProcessors t =
 -- ---- 15
 
 -- A bus whose name is none of Table 4-8's.
-unfoldable pub unnamed : Entry → Bool
-unnamed e = not (isBusName (nameOf e))
+unfoldable pub unknownName : Entry → Bool
+unknownName e = not (isBusName (nameOf e))
 
 -- "bus ID twice, or name unknown"
 unfoldable pub wrongBuses : List Entry → Bool
-wrongBuses es = twice (idsOf busType es) || any unnamed (keep (ofType busType) es)
+wrongBuses es = twice (idsOf busType es) || any unknownName (keep (ofType busType) es)
 
 -- ---- 16
 
@@ -55,53 +55,50 @@ wrongBuses es = twice (idsOf busType es) || any unnamed (keep (ofType busType) e
 unfoldable pub misplaced : Entry → Bool
 misplaced e = eqb (addressOf e) 0 || not (eqb (addressOf e % ioApicStep) 0)
 
-unfoldable pub isAmong : List ℕ → ℕ → Bool
-isAmong ns n = among n ns
-
 -- "enabled I/O APIC: ID 255, ID of another enabled I/O APIC or enabled processor, address 0 or not a multiple of 1,024"
 unfoldable pub wrongIoApics : List Entry → Bool
 wrongIoApics es =
     among everyone (enabledIds ioApicType es)
     || twice (enabledIds ioApicType es)
-    || any (isAmong (enabledIds processorType es)) (enabledIds ioApicType es)
+    || common (enabledIds ioApicType es) (enabledIds processorType es)
     || any misplaced (enabledOf ioApicType es)
 
 -- ---- 17
 
 -- The two sides of the interrupts: the type of their entries, and the type of those that a destination names.
 pub record Side : Type 0 where
-  pub lines : ℕ
-  pub ends : ℕ
+  pub interrupts : ℕ
+  pub targets : ℕ
 
 abbrev pub ioSide : Side
-ioSide = record { lines = ioInterruptType; ends = ioApicType }
+ioSide = record { interrupts = ioInterruptType; targets = ioApicType }
 
 abbrev pub localSide : Side
-localSide = record { lines = localInterruptType; ends = processorType }
+localSide = record { interrupts = localInterruptType; targets = processorType }
 
--- "bus not listed" asks this of the buses that the base entries list.
+-- Whether a bus is listed: some bus entry has its ID.
 unfoldable pub isListed : List Entry → ℕ → Bool
 isListed es bus = among bus (idsOf busType es)
 
 -- "interrupt type over 3; reserved polarity or trigger; bus not listed; destination neither 255 nor the ID of a listed
 -- I/O APIC (type 3) or processor (type 4), enabled or not"
-unfoldable pub wrongLine : List Entry → ℕ → Entry → Bool
-wrongLine es ends e =
+unfoldable pub wrongInterrupt : List Entry → ℕ → Entry → Bool
+wrongInterrupt es targets e =
     ltb 3 (interruptType e)
     || eqb (polarity e) 2
     || eqb (trigger e) 2
     || not (isListed es (sourceBus e))
-    || not (eqb (destination e) everyone || among (destination e) (idsOf ends es))
+    || not (eqb (destination e) everyone || among (destination e) (idsOf targets es))
 
 -- "local input over 1"
 unfoldable pub wrongInput : Entry → Bool
 wrongInput e = ltb 1 (input e)
 
-unfoldable pub wrongLines : Side → List Entry → Bool
-wrongLines side es = any (wrongLine es (side .ends)) (keep (ofType (side .lines)) es)
+unfoldable pub wrongOnSide : Side → List Entry → Bool
+wrongOnSide side es = any (wrongInterrupt es (side .targets)) (keep (ofType (side .interrupts)) es)
 
 unfoldable pub wrongInterrupts : List Entry → Bool
-wrongInterrupts es = wrongLines ioSide es || wrongLines localSide es || any wrongInput (keep (ofType localInterruptType) es)
+wrongInterrupts es = wrongOnSide ioSide es || wrongOnSide localSide es || any wrongInput (keep (ofType localInterruptType) es)
 
 -- ---- 18
 
@@ -118,14 +115,14 @@ wrongHierarchy es e = not (isListed es (extendedBus e)) || not (isListed es (par
 unfoldable pub wrongModifier : List Entry → Entry → Bool
 wrongModifier es e = not (isListed es (extendedBus e)) || ltb 1 (rangeList e)
 
--- "Every type 129 entry is a link", with or without the subtractive bit.
+-- The links: every type 129 entry is one, with or without the subtractive bit.
 unfoldable pub links : List Entry → List Entry
 links xs = keep (ofType hierarchyType) xs
 
 abbrev pub onBus : ℕ → Entry → Bool
 onBus bus e = eqb (extendedBus e) bus
 
--- The parents that links give a bus: none at the top, one where no bus has a second type 129 entry.
+-- The parents that links give a bus: none without a type 129 entry, and a second one is refused.
 unfoldable pub parentsOf : List Entry → ℕ → List ℕ
 parentsOf ls bus = each parentBus (keep (onBus bus) ls)
 
@@ -135,7 +132,8 @@ climbsTo zero ls goal bus = false
 climbsTo (suc n) ls goal bus =
     elim (parentsOf ls bus) [ [] ↦ false | parent ∷ others ↦ eqb parent goal || climbsTo n ls goal parent ]
 
--- A circle comes back to its bus before it has used a link twice, so as many links as there are will do.
+-- Whether a bus comes back to itself. As many links as there are will do: a longer climb that comes back has come back
+-- before (crate laws, circle-enough).
 unfoldable pub onCircle : List Entry → ℕ → Bool
 onCircle ls bus = climbsTo (length ls) ls bus bus
 

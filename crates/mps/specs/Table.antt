@@ -7,7 +7,7 @@ use lib.ListN.{length}
 use lib.Dec.{ltb, eqb}
 use Rattle.mps.specs.Words.{text, same, first}
 use Rattle.mps.specs.Sums.{sum256}
-use Rattle.mps.specs.Layout.{Entry, type, partMost, headerSize, signature, revision, baseLength, baseBytes, entryCount, extendedLength}
+use Rattle.mps.specs.Layout.{Entry, type, specRevision, lastBaseType, firstExtendedType, leastLength, partMost, headerSize, signature, revision, baseLength, baseBytes, entryCount, extendedLength}
 use Rattle.mps.specs.Layout.{extendedChecksum, extendedEnd, extendedPart, baseEntryLength, extendedEntryLength, ownLength, baseEntries, extendedEntries}
 
 -- 5: "44 header bytes not in one region"
@@ -15,9 +15,9 @@ unfoldable pub headerCut : List ℕ → Bool
 headerCut t = ltb (length t) headerSize
 
 -- 6: "not 'PCMP'"
-unfoldable pub unsigned : List ℕ → Bool
+unfoldable pub wrongSignature : List ℕ → Bool
 unfolding text
-unsigned t = not (same (signature t) (text "PCMP"))
+wrongSignature t = not (same (signature t) (text "PCMP"))
 
 -- 7: "base length under 44, over 4,096 or past the region"
 unfoldable pub wrongBaseLength : List ℕ → Bool
@@ -29,7 +29,7 @@ wrongBaseSum t = not (eqb (sum256 (baseBytes t)) 0)
 
 -- 9: "table revision not 4"
 unfoldable pub wrongRevision : List ℕ → Bool
-wrongRevision t = not (eqb (revision t) 4)
+wrongRevision t = not (eqb (revision t) specRevision)
 
 -- ---- The walk over the base entries
 
@@ -37,7 +37,7 @@ wrongRevision t = not (eqb (revision t) 4)
 -- 12 "type below the one before", the lower number first; 0 where it has none.
 unfoldable pub entryFault : ℕ → Entry → ℕ
 entryFault before e =
-    cond (ltb 4 (type e)) 10 (cond (ltb (length e) (baseEntryLength e)) 11 (cond (ltb (type e) before) 12 0))
+    cond (ltb lastBaseType (type e)) 10 (cond (ltb (length e) (baseEntryLength e)) 11 (cond (ltb (type e) before) 12 0))
 
 -- "the first faulty entry decides"
 unfoldable pub walkFrom : ℕ → List Entry → ℕ
@@ -64,9 +64,9 @@ descendingType t = eqb (walkFault t) 12
 -- "cut entry, length under 2, type under 128 or descending, or 128 to 130 with another length than theirs"
 unfoldable pub extendedFault : ℕ → Entry → Bool
 extendedFault before e =
-    ltb (extendedEntryLength e) 2
+    ltb (extendedEntryLength e) leastLength
     || ltb (length e) (extendedEntryLength e)
-    || ltb (type e) 128
+    || ltb (type e) firstExtendedType
     || ltb (type e) before
     || not (eqb (extendedEntryLength e) (ownLength e))
 

@@ -5,7 +5,7 @@ use Prim.Native.String.{String, [] as nothing, _∷_ as _then_}
 use mathlib.Core.Bool.{Bool, true, false, cond, _||_, _&&_}
 use mathlib.Core.List.{List, [], _∷_, _++_}
 use lib.ListN.{length, getD, take, drop}
-use lib.Dec.{eqb}
+use lib.Dec.{leb, eqb}
 
 -- The byte at a place of a list, 0 past its end.
 abbrev pub byte : List ℕ → ℕ → ℕ
@@ -40,6 +40,15 @@ among x (y ∷ ys) = eqb x y || among x ys
 unfoldable pub twice : List ℕ → Bool
 twice [] = false
 twice (x ∷ xs) = among x xs || twice xs
+
+-- Whether two lists have a number in common.
+unfoldable pub common : List ℕ → List ℕ → Bool
+common [] ys = false
+common (x ∷ xs) ys = among x ys || common xs ys
+
+-- Whether a number lies between two, both counted.
+abbrev pub within : ℕ → ℕ → ℕ → Bool
+within low high n = leb low n && leb n high
 
 -- The first number that is not 0, of two.
 abbrev pub first : ℕ → ℕ → ℕ
@@ -89,13 +98,15 @@ module _ {A B : Type 0} where
   joined f (x ∷ xs) = f x ++ joined f xs
 
 -- The pieces of a list of bytes are `cut len 0 s`: the bytes from the first of a piece on tell its length, and the last
--- piece is what is left, where that is shorter. The number is how many bytes of a piece are still to be passed.
+-- piece is what is left, where that is shorter. A piece of length 0 is empty and passes one byte. The number k is how
+-- many bytes of a piece are still to be passed.
 unfoldable pub cut : (List ℕ → ℕ) → ℕ → List ℕ → List (List ℕ)
 cut len k [] = []
 cut len (suc k) (x ∷ xs) = cut len k xs
 cut len zero (x ∷ xs) = take (len (x ∷ xs)) (x ∷ xs) ∷ cut len (pred (len (x ∷ xs))) xs
 
--- The part of a list from one place up to another, as `&s[from..to]` is.
+-- The part of a list from one place up to another, as `&s[from..to]` is; what of it lies past the end is not there, and
+-- where `to` is not past `from` it is empty.
 abbrev pub part : ℕ → ℕ → List ℕ → List ℕ
 part from to s = take (to - from) (drop from s)
 

@@ -8,16 +8,16 @@ use Rattle.mps.specs.Words.{text, cut, exactly, put, first}
 use Rattle.mps.specs.Refusals.{_when_, refusal}
 use Rattle.mps.specs.Sums.{sum256, toStore}
 use Rattle.mps.specs.Numbers.{bytes}
-use Rattle.mps.specs.Layout.{partMost, headerSize, baseEntryLength, basePart, extendedPart}
-use Rattle.mps.specs.Layout.{oemId, product, oemPointer, oemSize, localApic, reserved43}
+use Rattle.mps.specs.Layout.{specRevision, partMost, headerSize, baseEntryLength, basePart, extendedPart}
+use Rattle.mps.specs.Layout.{oemId, productOf, oemPointer, oemSize, localApic, reserved43}
 use Rattle.mps.specs.Judge.{tableRefusal}
 use Rattle.mps.specs.Answers.{writtenOf}
 use Rattle.mps.specs.declared.Written.{Written}
 
--- "header fields (OEM ID, product, OEM pointer and size, local APIC address, byte 43)"
+-- "header fields (OEM ID, product, OEM pointer and size, local APIC address, byte 43)": eight bytes, twelve bytes, numbers.
 pub record Fields : Type 0 where
   pub oem : List ℕ
-  pub model : List ℕ
+  pub product : List ℕ
   pub pointer : ℕ
   pub size : ℕ
   pub apic : ℕ
@@ -32,7 +32,7 @@ pub record Parts : Type 0 where
 -- The parts of a table.
 unfoldable pub fieldsOf : List ℕ → Fields
 fieldsOf t =
-    record { oem = oemId t; model = product t; pointer = oemPointer t; size = oemSize t; apic = localApic t; reserved = reserved43 t }
+    record { oem = oemId t; product = productOf t; pointer = oemPointer t; size = oemSize t; apic = localApic t; reserved = reserved43 t }
 
 unfoldable pub partsOf : List ℕ → Parts
 partsOf t = record { fields = fieldsOf t; base = basePart t; extended = extendedPart t }
@@ -51,10 +51,10 @@ unfolding text
 header p baseSum extendedSum =
     text "PCMP"
     ++ (bytes 2 (baseSize p)
-    ++ (4
+    ++ (specRevision
     ∷ baseSum
     ∷ (exactly 8 (p .fields .oem)
-    ++ (exactly 12 (p .fields .model)
+    ++ (exactly 12 (p .fields .product)
     ++ (bytes 4 (p .fields .pointer)
     ++ (bytes 2 (p .fields .size)
     ++ (bytes 2 (countOf p)

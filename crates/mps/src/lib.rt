@@ -30,7 +30,7 @@ pub enum Held {
     Refused(u8),
 }
 
-// What stands in a lent room: so many bytes of a listing or of a new table, or nothing new, with the reason.
+// What stands in a lent room: so many bytes of a listing or of a new table, or the number of the refusal.
 pub enum Written {
     Bytes(usize),
     Refused(u8),
@@ -58,8 +58,8 @@ pub enum Edited {
     Inner(u8),
 }
 
-// What the reader finds at a place: an entry of so many bytes, or none.
+// What the reader finds at a place: a whole entry of so many bytes, or none.
 pub enum Found {
-    Entry(usize),
+    Whole(usize),
     Nothing,
 }

@@ -1,7 +1,7 @@
 -- Computing with the definitions: `unfolding computed` opens every definition of mps at once, so that a claim over closed
--- bytes is settled by computing both sides. A definition's own `unfolding` line is what is opened with it.
+-- bytes is settled by computing both sides. What a definition's own `unfolding` line names is opened with it.
 use Prim.Native.Nat.{ℕ}
-use Rattle.mps.specs.Words.{text, bit, same, among, twice, keep, any, every, each, joined, cut, exactly}
+use Rattle.mps.specs.Words.{text, bit, same, among, twice, common, keep, any, every, each, joined, cut, exactly}
 use Rattle.mps.specs.Refusals.{refusal}
 use Rattle.mps.specs.Sums.{total, sum256, toStore}
 use Rattle.mps.specs.Numbers.{le, bytes}
@@ -10,18 +10,18 @@ use Rattle.mps.specs.Ranges.{isa, vga, rangesAt, inList, printedIsa, printedVga
 use Rattle.mps.specs.Layout.{baseEntryLength, baseEntries, extendedEntries, ownLength}
 use Rattle.mps.specs.Dump.{regionsFrom, regions, kindRule, soundRegion, share, overlap, kindTwice, endsWithLast, soundDump, holds, holding}
 use Rattle.mps.specs.Pointer.{addressed, candidates, good, searched, pointers, pointer, isDefault, noPointer, wrongPointerRevision, wrongFeature, tableStart, tableEnd, tableIn}
-use Rattle.mps.specs.Table.{headerCut, unsigned, wrongBaseLength, wrongBaseSum, wrongRevision, entryFault, walkFrom, walkFault, wrongType, cutOrMiscounted, descendingType, extendedFault, extendedFrom, wrongExtended}
-use Rattle.mps.specs.Rules.{enabledOf, idsOf, enabledIds, bootstraps, wrongProcessors, unnamed, wrongBuses, misplaced, isAmong, wrongIoApics, isListed, wrongLine, wrongInput, wrongLines, wrongInterrupts, wrongMapping, wrongHierarchy, wrongModifier, links, parentsOf, climbsTo, onCircle, circle, wrongSpaces}
+use Rattle.mps.specs.Table.{headerCut, wrongSignature, wrongBaseLength, wrongBaseSum, wrongRevision, entryFault, walkFrom, walkFault, wrongType, cutOrMiscounted, descendingType, extendedFault, extendedFrom, wrongExtended}
+use Rattle.mps.specs.Rules.{enabledOf, idsOf, enabledIds, bootstraps, wrongProcessors, unknownName, wrongBuses, misplaced, wrongIoApics, isListed, wrongInterrupt, wrongInput, wrongOnSide, wrongInterrupts, wrongMapping, wrongHierarchy, wrongModifier, links, parentsOf, climbsTo, onCircle, circle, wrongSpaces}
 use Rattle.mps.specs.Judge.{tableRules, tableRefusal, pointerRules, dumpRules, dumpRefusal, judged, holdsOf, held}
-use Rattle.mps.specs.Routes.{asksFor, names, pair, pairsTo, routes, routesOf, routeRules, routeRefusal, routed, routesLeft}
+use Rattle.mps.specs.Routes.{matches, names, pair, pairsTo, routes, routesOf, routeRules, routeRefusal, routed, routesLeft}
 use Rattle.mps.specs.Addresses.{covers, touches, takesAway, adds, coversOrAdds, declares, subtractive, says, climb, seenBy, addressRules, seen}
-use Rattle.mps.specs.Listing.{digits, decimalDigit, hexDigit, decimalWidth, decimal, hex, line, unpadded, onOff, bootAp, interruptName, cpuLine, busLine, ioApicLine, interruptLine, baseLine, mapLine, treeLine, modLine, skipLine, extendedLine, defaultLine, pointerLine, tableLine, endLine, tableLines, listing, refusedLine, listRefusal, listed, listLeft}
+use Rattle.mps.specs.Listing.{digits, decimalDigit, hexDigit, decimalWidth, decimal, hex, line, unpadded, onOff, bootAp, interruptName, cpuLine, busLine, ioApicLine, interruptLine, baseLine, mapLine, treeLine, modLine, skipLine, extendedLine, defaultLine, pointerLine, tableLine, endLine, tableLines, listing, refusedLine, programOutput, listRefusal, listed, listLeft}
 use Rattle.mps.specs.Writing.{fieldsOf, partsOf, header, extendedSumOf, baseSumOf, image, unwritten, writeRefusal, written, writeLeft}
-use Rattle.mps.specs.Edits.{standing, offsetOf, sealed, editedTable, noPlace, otherShape, changed, innerRefusal, editRules, editRefusal, edited, editLeft, run}
+use Rattle.mps.specs.Edits.{standing, offsetOf, sealed, editedTable, noPlace, otherShape, changed, innerRefusal, editRules, editRefusal, edited, editLeft, run, runAnswers}
 use Rattle.mps.specs.Reader.{baseStep, extendedStep, entrySize, entryAt, nextPlace, found}
 
 ofWords : ℕ
-unfolding text bit same among twice keep any every each joined cut exactly
+unfolding text bit same among twice common keep any every each joined cut exactly
 ofWords = 0
 
 ofRefusals : ℕ
@@ -57,11 +57,11 @@ unfolding addressed candidates good searched pointers pointer isDefault noPointe
 ofPointer = 0
 
 ofTable : ℕ
-unfolding headerCut unsigned wrongBaseLength wrongBaseSum wrongRevision entryFault walkFrom walkFault wrongType cutOrMiscounted descendingType extendedFault extendedFrom wrongExtended
+unfolding headerCut wrongSignature wrongBaseLength wrongBaseSum wrongRevision entryFault walkFrom walkFault wrongType cutOrMiscounted descendingType extendedFault extendedFrom wrongExtended
 ofTable = 0
 
 ofRules : ℕ
-unfolding enabledOf idsOf enabledIds bootstraps wrongProcessors unnamed wrongBuses misplaced isAmong wrongIoApics isListed wrongLine wrongInput wrongLines wrongInterrupts wrongMapping wrongHierarchy wrongModifier links parentsOf climbsTo onCircle circle wrongSpaces
+unfolding enabledOf idsOf enabledIds bootstraps wrongProcessors unknownName wrongBuses misplaced wrongIoApics isListed wrongInterrupt wrongInput wrongOnSide wrongInterrupts wrongMapping wrongHierarchy wrongModifier links parentsOf climbsTo onCircle circle wrongSpaces
 ofRules = 0
 
 ofJudge : ℕ
@@ -69,7 +69,7 @@ unfolding tableRules tableRefusal pointerRules dumpRules dumpRefusal judged hold
 ofJudge = 0
 
 ofRoutes : ℕ
-unfolding asksFor names pair pairsTo routes routesOf routeRules routeRefusal routed routesLeft
+unfolding matches names pair pairsTo routes routesOf routeRules routeRefusal routed routesLeft
 ofRoutes = 0
 
 ofAddresses : ℕ
@@ -77,7 +77,7 @@ unfolding covers touches takesAway adds coversOrAdds declares subtractive says c
 ofAddresses = 0
 
 ofListing : ℕ
-unfolding digits decimalDigit hexDigit decimalWidth decimal hex line unpadded onOff bootAp interruptName cpuLine busLine ioApicLine interruptLine baseLine mapLine treeLine modLine skipLine extendedLine defaultLine pointerLine tableLine endLine tableLines listing refusedLine listRefusal listed listLeft
+unfolding digits decimalDigit hexDigit decimalWidth decimal hex line unpadded onOff bootAp interruptName cpuLine busLine ioApicLine interruptLine baseLine mapLine treeLine modLine skipLine extendedLine defaultLine pointerLine tableLine endLine tableLines listing refusedLine programOutput listRefusal listed listLeft
 ofListing = 0
 
 ofWriting : ℕ
@@ -85,7 +85,7 @@ unfolding fieldsOf partsOf header extendedSumOf baseSumOf image unwritten writeR
 ofWriting = 0
 
 ofEdits : ℕ
-unfolding standing offsetOf sealed editedTable noPlace otherShape changed innerRefusal editRules editRefusal edited editLeft run
+unfolding standing offsetOf sealed editedTable noPlace otherShape changed innerRefusal editRules editRefusal edited editLeft run runAnswers
 ofEdits = 0
 
 ofReader : ℕ

@@ -10,7 +10,7 @@ use lib.ListN.{take, drop}
 use Rattle.mps.specs.Words.{among, any, each}
 use Rattle.mps.specs.Refusals.{Rule}
 use Rattle.mps.specs.Layout.{baseEntries, extendedEntries}
-use Rattle.mps.specs.Table.{headerCut, unsigned, wrongBaseLength, wrongBaseSum, wrongRevision, wrongType, cutOrMiscounted, descendingType, wrongExtended}
+use Rattle.mps.specs.Table.{headerCut, wrongSignature, wrongBaseLength, wrongBaseSum, wrongRevision, wrongType, cutOrMiscounted, descendingType, wrongExtended}
 use Rattle.mps.specs.Rules.{wrongProcessors, wrongBuses, wrongIoApics, wrongInterrupts, wrongSpaces}
 use Rattle.mps.specs.Judge.{tableRules, tableRefusal}
 use Rattle.laws.proofs.Refusals.{so, given-exactly}
@@ -25,9 +25,9 @@ unfolding tableRefusal tableRules among each
 given-5 t = given-exactly (take 0 (tableRules t)) 5 (headerCut t) (drop 1 (tableRules t)) (omega arith) refl refl
 
 -- 6: not "PCMP"
-pub given-6 : (t : List ℕ) → Exactly (tableRefusal t) 6 (take 1 (tableRules t)) (unsigned t)
+pub given-6 : (t : List ℕ) → Exactly (tableRefusal t) 6 (take 1 (tableRules t)) (wrongSignature t)
 unfolding tableRefusal tableRules among each
-given-6 t = given-exactly (take 1 (tableRules t)) 6 (unsigned t) (drop 2 (tableRules t)) (omega arith) refl refl
+given-6 t = given-exactly (take 1 (tableRules t)) 6 (wrongSignature t) (drop 2 (tableRules t)) (omega arith) refl refl
 
 -- 7: base length under 44, over 4,096 or past the region
 pub given-7 : (t : List ℕ) → Exactly (tableRefusal t) 7 (take 2 (tableRules t)) (wrongBaseLength t)
