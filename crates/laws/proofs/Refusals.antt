@@ -7,7 +7,7 @@ use mathlib.Core.List.{List, [], _∷_, _++_}
 use native.Mathlib.Omega.{arith}
 use lib.Dec.{eqb}
 use borrow.Author.Tests.{eqb-false}
-use Rattle.mps.specs.Words.{among, any, each, first}
+use Rattle.mps.specs.Words.{among, any, each, only, first}
 use Rattle.mps.specs.Refusals.{Rule, _when_, refusal}
 use Rattle.laws.proofs.Tests.{or-parts}
 
@@ -41,6 +41,13 @@ refusal-append (n when c ∷ a) b e =
     let h = or-parts (eqb 0 n) (among 0 (each number a)) e in
     rw (refusal-append a b (h .1)) (append-step n c (refusal a) (refusal b) (h .0))
 
+-- Rows of which none is so decide nothing.
+pub refusal-passed : (a b : List Rule) → any so a ≡ false → refusal (a ++ b) ≡ refusal b
+unfolding refusal any
+refusal-passed [] b e = refl
+refusal-passed (n when true ∷ a) b e = absurd (true≢false e)
+refusal-passed (n when false ∷ a) b e = refusal-passed a b e
+
 -- ---- "Given exactly when"
 
 -- A number that no row has is not given.
@@ -61,3 +68,9 @@ given-exactly (m when true ∷ before) n b after p f g =
     (λ e. absurd (eqb-false n m (or-parts (eqb n m) (among n (each number before)) f .0) (sym e)), λ h. absurd (true≢false (h .0)))
 given-exactly (m when false ∷ before) n b after p f g =
     given-exactly before n b after p (or-parts (eqb n m) (among n (each number before)) f .1) g
+
+-- Rows that are there only under a test have no number that they would not have without it.
+pub absent-only : (n : ℕ) (b : Bool) (rows : List Rule) → among n (each number rows) ≡ false → among n (each number (only b rows)) ≡ false
+unfolding among each
+absent-only n true rows e = e
+absent-only n false rows e = refl

@@ -1,23 +1,70 @@
--- "Given exactly when": a table is refused with a number if and only if that number's row of document 01 is so and no row
--- tested before it is. One theorem, `given-exactly` of laws, serves every number. Assumes nothing.
+-- "Given exactly when": a dump or a bare table is refused with a number if and only if that number's row of document 01 is
+-- so and no row tested before it is. One theorem, `given-exactly` of laws, serves every number. Assumes nothing.
 use Prim.Native.Nat.{ℕ}
-use mathlib.Core.Path.{_≡_, refl}
-use mathlib.Core.Bool.{Bool, true, false}
-use mathlib.Core.List.{List}
+use mathlib.Core.Path.{_≡_, refl, _∙_}
+use mathlib.Core.Bool.{Bool, true, false, not}
+use mathlib.Core.List.{List, _++_}
 use mathlib.Core.Logic.{_↔_}
 use native.Mathlib.Omega.{arith}
 use lib.ListN.{take, drop}
-use Rattle.mps.specs.Words.{among, any, each}
-use Rattle.mps.specs.Refusals.{Rule}
+use Rattle.mps.specs.Words.{among, any, each, only}
+use Rattle.mps.specs.Refusals.{Rule, refusal}
 use Rattle.mps.specs.Layout.{baseEntries, extendedEntries}
+use Rattle.mps.specs.Dump.{soundDump}
+use Rattle.mps.specs.Pointer.{noPointer, wrongPointerRevision, wrongFeature, isDefault, tableIn}
 use Rattle.mps.specs.Table.{headerCut, wrongSignature, wrongBaseLength, wrongBaseSum, wrongRevision, wrongType, cutOrMiscounted, descendingType, wrongExtended}
 use Rattle.mps.specs.Rules.{wrongProcessors, wrongBuses, wrongIoApics, wrongInterrupts, wrongSpaces}
-use Rattle.mps.specs.Judge.{tableRules, tableRefusal}
-use Rattle.laws.proofs.Refusals.{so, given-exactly}
+use Rattle.mps.specs.Judge.{tableRules, tableRefusal, pointerRules, dumpRules, dumpRefusal}
+use Rattle.laws.proofs.Refusals.{so, refusal-passed, given-exactly, absent-only}
 
 -- A number is given exactly when its row is so and none of the rows before it is.
 abbrev Exactly : ℕ → ℕ → List Rule → Bool → Type 0
 Exactly given n before row = (given ≡ n) ↔ ((any so before ≡ false) × (row ≡ true))
+
+-- ---- A dump: 1 to 4
+
+-- The rows behind: those of the table, where there is one, have none of these numbers.
+abbrev tableRows : List ℕ → List Rule
+tableRows d = only (not (isDefault d)) (tableRules (tableIn d))
+
+-- 1: the dump breaks a rule of its section (an empty file too)
+pub given-1 : (d : List ℕ) → Exactly (dumpRefusal d) 1 (take 0 (pointerRules d)) (not (soundDump d))
+unfolding dumpRefusal dumpRules pointerRules tableRules among each
+given-1 d =
+    given-exactly (take 0 (pointerRules d)) 1 (not (soundDump d)) (drop 1 (pointerRules d) ++ tableRows d) (omega arith) refl
+    (absent-only 1 (not (isDefault d)) (tableRules (tableIn d)) refl)
+
+-- 2: no good floating pointer
+pub given-2 : (d : List ℕ) → Exactly (dumpRefusal d) 2 (take 1 (pointerRules d)) (noPointer d)
+unfolding dumpRefusal dumpRules pointerRules tableRules among each
+given-2 d =
+    given-exactly (take 1 (pointerRules d)) 2 (noPointer d) (drop 2 (pointerRules d) ++ tableRows d) (omega arith) refl
+    (absent-only 2 (not (isDefault d)) (tableRules (tableIn d)) refl)
+
+-- 3: pointer revision not 4
+pub given-3 : (d : List ℕ) → Exactly (dumpRefusal d) 3 (take 2 (pointerRules d)) (wrongPointerRevision d)
+unfolding dumpRefusal dumpRules pointerRules tableRules among each
+given-3 d =
+    given-exactly (take 2 (pointerRules d)) 3 (wrongPointerRevision d) (drop 3 (pointerRules d) ++ tableRows d) (omega arith) refl
+    (absent-only 3 (not (isDefault d)) (tableRules (tableIn d)) refl)
+
+-- 4: feature byte over 7; 1 to 7 with nonzero address; 0 with address 0
+pub given-4 : (d : List ℕ) → Exactly (dumpRefusal d) 4 (take 3 (pointerRules d)) (wrongFeature d)
+unfolding dumpRefusal dumpRules pointerRules tableRules among each
+given-4 d =
+    given-exactly (take 3 (pointerRules d)) 4 (wrongFeature d) (drop 4 (pointerRules d) ++ tableRows d) (omega arith) refl
+    (absent-only 4 (not (isDefault d)) (tableRules (tableIn d)) refl)
+
+-- A dump that passes 1 to 4 is a default configuration, or is refused as its table is.
+pub given-table : (d : List ℕ) → any so (pointerRules d) ≡ false → isDefault d ≡ false → dumpRefusal d ≡ tableRefusal (tableIn d)
+unfolding dumpRefusal dumpRules tableRefusal
+given-table d e f = refusal-passed (pointerRules d) (tableRows d) e ∙ rw f
+
+pub given-default : (d : List ℕ) → any so (pointerRules d) ≡ false → isDefault d ≡ true → dumpRefusal d ≡ 0
+unfolding dumpRefusal dumpRules refusal
+given-default d e f = refusal-passed (pointerRules d) (tableRows d) e ∙ rw f
+
+-- ---- A bare table: 5 to 18
 
 -- 5: 44 header bytes not in one region
 pub given-5 : (t : List ℕ) → Exactly (tableRefusal t) 5 (take 0 (tableRules t)) (headerCut t)

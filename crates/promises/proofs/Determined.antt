@@ -1,0 +1,90 @@
+-- Each public function's contract determines what is returned and what is left of what was lent, on any input: two results
+-- that it allows are equal. Stated over the contract as the toolchain reads it. Assumes nothing.
+use mathlib.Core.Path.{_≡_, sym, _∙_}
+use denote.Ref.{now}
+use Rattle.numbers.proofs.byte.Reads as byte
+use Rattle.numbers.proofs.wide.Reads as wide
+use Rattle.numbers.proofs.le16.Reads as le16
+use Rattle.numbers.proofs.le32.Reads as le32
+use Rattle.numbers.proofs.le64.Reads as le64
+use Rattle.numbers.proofs.put16.Reads as put16
+use Rattle.numbers.proofs.put32.Reads as put32
+use Rattle.sets.proofs.empty.Reads as empty
+use Rattle.sets.proofs.put.Reads as put
+use Rattle.sets.proofs.contains.Reads as contains
+use Rattle.slices.proofs.same.Reads as same
+use Rattle.slices.proofs.copy.Reads as copy
+use Rattle.slices.proofs.clear.Reads as clear
+use Rattle.sums.proofs.sum.Reads as sum
+use Rattle.sums.proofs.to_store.Reads as to-store
+use Rattle.tables.proofs.names.is_bus_name.Reads as is-bus-name
+use Rattle.tables.proofs.ranges.ranges.Reads as ranges
+
+-- A contract whose parameters are only read: at any arguments it allows one result.
+abbrev pub Answers : {K : Type 0} {A R S : K → Type 0} → ((κ : K) → A κ → R κ → S κ → Type 0) → Type 0
+Answers {K} {A} {R} {S} P = (κ : K) (a : A κ) (x y : R κ) (s t : S κ) → P κ a x s → P κ a y t → x ≡ y
+
+-- A contract of a function that returns nothing, where `left` is the content of what was lent: it allows one content.
+abbrev pub Leaves : {K : Type 0} {A R S : K → Type 0} {X : Type 0} → ((κ : K) → A κ → R κ → S κ → Type 0) → ((κ : K) → S κ → X) → Type 0
+Leaves {K} {A} {R} {S} P left = (κ : K) (a : A κ) (x y : R κ) (s t : S κ) → P κ a x s → P κ a y t → left κ s ≡ left κ t
+
+-- ---- numbers
+
+pub byte-determined : Answers byte.Post
+byte-determined κ a x y s t p q = p ∙ sym q
+
+pub wide-determined : Answers wide.Post
+wide-determined κ a x y s t p q = p .0 ∙ sym (q .0)
+
+pub le16-determined : Answers le16.Post
+le16-determined κ a x y s t p q = p ∙ sym q
+
+pub le32-determined : Answers le32.Post
+le32-determined κ a x y s t p q = p ∙ sym q
+
+pub le64-determined : Answers le64.Post
+le64-determined κ a x y s t p q = p ∙ sym q
+
+pub put16-determined : Leaves put16.Post (λ κ s. now (s .0))
+put16-determined κ a x y s t p q = p ∙ sym q
+
+pub put32-determined : Leaves put32.Post (λ κ s. now (s .0))
+put32-determined κ a x y s t p q = p ∙ sym q
+
+-- ---- sets
+
+pub empty-determined : Answers empty.Post
+empty-determined κ a x y s t p q = p ∙ sym q
+
+pub put-determined : Answers put.Post
+put-determined κ a x y s t p q = p ∙ sym q
+
+pub contains-determined : Answers contains.Post
+contains-determined κ a x y s t p q = p ∙ sym q
+
+-- ---- slices
+
+pub same-determined : Answers same.Post
+same-determined κ a x y s t p q = p ∙ sym q
+
+pub copy-determined : Leaves copy.Post (λ κ s. now (s .0))
+copy-determined κ a x y s t p q = p ∙ sym q
+
+pub clear-determined : Leaves clear.Post (λ κ s. now (s .0))
+clear-determined κ a x y s t p q = p ∙ sym q
+
+-- ---- sums
+
+pub sum-determined : Answers sum.Post
+sum-determined κ a x y s t p q = p ∙ sym q
+
+pub to-store-determined : Answers to-store.Post
+to-store-determined κ a x y s t p q = p ∙ sym q
+
+-- ---- tables
+
+pub is-bus-name-determined : Answers is-bus-name.Post
+is-bus-name-determined κ a x y s t p q = p ∙ sym q
+
+pub ranges-determined : Answers ranges.Post
+ranges-determined κ a x y s t p q = p ∙ sym q
