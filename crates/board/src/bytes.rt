@@ -10,3 +10,10 @@ pub const TABLE: [u8; 96] = *b"\
     \x02\x02\x11\x01\x00\x00\xC0\xFE\
     \x03\x00\x00\x00\x00\x01\x02\x01\
     \x04\x03\x00\x00\x00\x00\xFF\x00";
+
+// Where the input of the board's place 3 stands, and the name of its bus.
+pub const INPUT_OF_PLACE_3: usize = 87;
+
+pub const BUS_NAME: usize = 66;
+
+pub const BUS_NAME_END: usize = 72;

@@ -1,8 +1,8 @@
 // What the proved leaves find in the bench board of document 01, a line each.
 //
-// `shown` is given what the code found and what the paper says, and requires that they are equal; so each line is
-// proved before the program is built, and does not rest on having been run. The listing program will take this
-// one's place as the main job.
+// `shown` is given what the code found and what the paper says, and requires that they are equal: the number of each
+// line is proved before the program is built, and does not rest on having been run. The listing program will take
+// this one's place as the main job.
 mod bytes;
 
 use mps::layout;
@@ -24,36 +24,56 @@ fn checksums() {
     shown(b"base bytes add to ", base as u64, 0);
 }
 
-// P5: with input 9 at place 3, the byte to store at 7.
+// P5: with input 9 at place 3, the byte to store is B8h.
 fn edited() {
     let mut table = bytes::TABLE;
-    table[87] = 9;
+    table[bytes::INPUT_OF_PLACE_3] = 9;
     table[layout::CHECKSUM] = 0;
     let stored = sums::to_store(sums::sum(&table));
-    shown(b"checksum for input 9 ", stored as u64, 0xb8);
+    shown(b"checksum with input 9 at place 3: ", stored as u64, 0xb8);
 }
 
 fn header() {
     let length = numbers::le16(&bytes::TABLE, layout::BASE_LENGTH);
     shown(b"base length ", length as u64, 96);
     let entries = numbers::le16(&bytes::TABLE, layout::ENTRY_COUNT);
-    shown(b"entries ", entries as u64, 5);
+    shown(b"base entries ", entries as u64, 5);
     let table = numbers::le32(&bytes::POINTER, layout::POINTER_TABLE);
-    shown(b"table at ", table as u64, 0xf_0010);
+    shown(
+        b"bytes from F0000h to the table ",
+        (table as u64) % 65536,
+        16,
+    );
 }
 
 fn bus() {
     let table = bytes::TABLE;
-    let known = tables::names::is_bus_name(&table[66..72]);
-    shown(b"bus names known ", known as u64, 1);
+    let known = tables::names::is_bus_name(&table[bytes::BUS_NAME..bytes::BUS_NAME_END]);
+    shown(b"ISA is a bus name: ", known as u64, 1);
 }
 
-// P8 and P9: 1 is ISA, 2 is VGA.
+// P8 and P9: bit 0 of the answer is ISA, bit 1 VGA.
 fn ranges() {
-    shown(b"ranges of 0FFh ", tables::ranges::ranges(0xff) as u64, 0);
-    shown(b"ranges of 100h ", tables::ranges::ranges(0x100) as u64, 1);
-    shown(b"ranges of 3BBh ", tables::ranges::ranges(0x3bb) as u64, 3);
-    shown(b"ranges of 3BCh ", tables::ranges::ranges(0x3bc) as u64, 1);
+    shown(
+        b"I/O 0FFh is ISA: ",
+        tables::ranges::ranges(0xff) as u64 % 2,
+        0,
+    );
+    shown(
+        b"I/O 100h is ISA: ",
+        tables::ranges::ranges(0x100) as u64 % 2,
+        1,
+    );
+    shown(
+        b"I/O 3BBh is VGA: ",
+        tables::ranges::ranges(0x3bb) as u64 / 2,
+        1,
+    );
+    shown(
+        b"I/O 3BCh is VGA: ",
+        tables::ranges::ranges(0x3bc) as u64 / 2,
+        0,
+    );
 }
 
 fn main() {

@@ -1,14 +1,15 @@
 -- Laws of the words about lists. Assumes nothing.
-use Prim.Native.Nat.{ℕ, _+_, _≤_, _<_}
-use mathlib.Core.Path.{_≡_}
+use Prim.Native.Nat.{ℕ, zero, suc, _+_, _≤_, _<_}
+use mathlib.Core.Path.{_≡_, refl, ap}
 use mathlib.Core.Bool.{Bool, true, false, false≢true, or-true}
 use mathlib.Core.List.{List, [], _∷_}
+use native.Mathlib.Omega.{arith}
 use native.Mathlib.Numerals.{add-one}
 use lib.ListN.{length, getD, drop, drop-of-length-le}
 use lib.Seq.{drop-cons}
 use lib.Dec.{eqb}
 use borrow.Author.Tests.{eqb-true, eq-eqb}
-use Rattle.mps.specs.Words.{among, any}
+use Rattle.mps.specs.Words.{among, any, exactly}
 use Rattle.laws.proofs.Tests.{either}
 
 -- ---- among
@@ -60,3 +61,18 @@ module _ {A : Type 0} (p : A → Bool) (l : List A) (d : A) (i : ℕ) where
   pub any-next : i < length l → p (getD l i d) ≡ false → any p (drop i l) ≡ any p (drop (i + 1) l)
   unfolding any
   any-next h e = rw (add-one i, drop-cons l i d h, e)
+
+-- ---- exactly
+
+pub length-exactly : (k : ℕ) (s : List ℕ) → length (exactly k s) ≡ k
+unfolding exactly
+length-exactly zero s = refl
+length-exactly (suc k) [] = ap suc (length-exactly k [])
+length-exactly (suc k) (x ∷ s) = ap suc (length-exactly k s)
+
+pub exactly-all : (k : ℕ) (s : List ℕ) → length s ≡ k → exactly k s ≡ s
+unfolding exactly
+exactly-all zero [] e = refl
+exactly-all zero (x ∷ s) e = absurd (omega arith)
+exactly-all (suc k) [] e = absurd (omega arith)
+exactly-all (suc k) (x ∷ s) e = ap (λ (l : List ℕ). x ∷ l) (exactly-all k s (omega arith))

@@ -48,6 +48,21 @@ refusal-passed [] b e = refl
 refusal-passed (n when true ∷ a) b e = absurd (true≢false e)
 refusal-passed (n when false ∷ a) b e = refusal-passed a b e
 
+-- No number is given exactly when no row is so, where 0 is no row's number.
+pub refusal-none : (rows : List Rule) → among 0 (each number rows) ≡ false → (refusal rows ≡ 0) ↔ (any so rows ≡ false)
+unfolding refusal among each any
+refusal-none [] a = (λ e. refl, λ e. refl)
+refusal-none (n when true ∷ rows) a =
+    (λ e. absurd (eqb-false 0 n (or-parts (eqb 0 n) (among 0 (each number rows)) a .0) (sym e)), λ e. absurd (true≢false e))
+refusal-none (n when false ∷ rows) a = refusal-none rows (or-parts (eqb 0 n) (among 0 (each number rows)) a .1)
+
+-- A number that the rows before have not is given by those behind, and only where no row before is so.
+pub refusal-behind : (n : ℕ) (a b : List Rule) → among n (each number a) ≡ false → refusal (a ++ b) ≡ n → any so a ≡ false
+unfolding refusal among each any
+refusal-behind n [] b f e = refl
+refusal-behind n (m when true ∷ a) b f e = absurd (eqb-false n m (or-parts (eqb n m) (among n (each number a)) f .0) (sym e))
+refusal-behind n (m when false ∷ a) b f e = refusal-behind n a b (or-parts (eqb n m) (among n (each number a)) f .1) e
+
 -- ---- "Given exactly when"
 
 -- A number that no row has is not given.

@@ -5,10 +5,10 @@ use mathlib.Core.List.{List, [], _∷_, _++_}
 use lib.ListN.{length}
 use lib.Dec.{leb, ltb, eqb}
 use Rattle.mps.specs.Words.{any, head}
-use Rattle.mps.specs.Refusals.{Rule, _when_, refusal}
+use Rattle.mps.specs.Refusals.{Rule, _when_, refusal, queryNumber}
 use Rattle.mps.specs.Ranges.{inList}
 use Rattle.mps.specs.Layout.{Entry, ofType, busType, mappingType, modifierType, baseEntries, extendedEntries}
-use Rattle.mps.specs.Layout.{spaceKind, spaceBase, spaceLength, subtractiveBit, takesBit, rangeList}
+use Rattle.mps.specs.Layout.{spaceKind, spaceKindMost, spaceBase, spaceLength, subtractiveBit, takesBit, rangeList}
 use Rattle.mps.specs.Rules.{onBus, links, parentsOf, isListed, idsOf}
 use Rattle.mps.specs.Judge.{tableRules}
 use Rattle.mps.specs.Answers.{seenOf}
@@ -30,19 +30,23 @@ covers bus kind address e =
 unfoldable pub touches : ℕ → ℕ → ℕ → Entry → Bool
 touches bus kind address e = ofType modifierType e && onBus bus e && eqb kind 0 && inList (rangeList e) address
 
+-- "a modifier takes it away"
 unfoldable pub takesAway : ℕ → ℕ → ℕ → Entry → Bool
 takesAway bus kind address e = touches bus kind address e && takesBit e
 
+-- "a modifier adds it"
 unfoldable pub adds : ℕ → ℕ → ℕ → Entry → Bool
 adds bus kind address e = touches bus kind address e && not (takesBit e)
 
+-- "a 128 entry of that kind covers it or a modifier adds it"
 unfoldable pub coversOrAdds : ℕ → ℕ → ℕ → Entry → Bool
 coversOrAdds bus kind address e = covers bus kind address e || adds bus kind address e
 
--- "any 128 or 130 entry": of any kind, empty ranges and modifiers too.
-unfoldable pub declares : ℕ → Entry → Bool
-declares bus e = (ofType mappingType e || ofType modifierType e) && onBus bus e
+-- "the bus has any 128 or 130 entry": of any kind, empty ranges and modifiers too.
+unfoldable pub hasEntry : ℕ → Entry → Bool
+hasEntry bus e = (ofType mappingType e || ofType modifierType e) && onBus bus e
 
+-- "the bus has the subtractive bit": in its type 129 entry.
 unfoldable pub subtractive : ℕ → Entry → Bool
 subtractive bus e = onBus bus e && subtractiveBit e
 
@@ -51,12 +55,14 @@ subtractive bus e = onBus bus e && subtractiveBit e
 pub data Say : Type 0 where
   no yes parent undeclared : Say
 
+-- "no, if a modifier takes it away; yes, if a 128 entry of that kind covers it or a modifier adds it; the parent's answer,
+-- if the bus has the subtractive bit; no, if the bus has any 128 or 130 entry; else undeclared"
 unfoldable pub says : List Entry → ℕ → ℕ → ℕ → Say
 says xs bus kind address =
     cond (any (takesAway bus kind address) xs) Say.no
     (cond (any (coversOrAdds bus kind address) xs) Say.yes
     (cond (any (subtractive bus) (links xs)) Say.parent
-    (cond (any (declares bus) xs) Say.no Say.undeclared)))
+    (cond (any (hasEntry bus) xs) Say.no Say.undeclared)))
 
 -- A bus's own answer, with the links climbed to it, or what its parent answers.
 abbrev pub answer : Say → ℕ → Seen → Seen
@@ -66,8 +72,8 @@ answer Say.parent climbed above = above
 answer Say.undeclared climbed above = Undeclared climbed
 
 -- "the parent's answer, if the bus has the subtractive bit": a climb through the type 129 entries. The falling number is
--- the listed buses not visited yet. In an accepted table it does not run out while there is a parent to ask (crate laws,
--- climbs-listed), and a bus with the subtractive bit has a parent; else the answer would be undeclared.
+-- the listed buses not visited yet. In an accepted table it does not run out while there is a parent to ask (crate
+-- promises, seen-enough), and a bus with the subtractive bit has a parent; else the answer would be undeclared.
 unfoldable pub climb : ℕ → List Entry → ℕ → ℕ → ℕ → ℕ → Seen
 climb zero xs bus kind address climbed = answer (says xs bus kind address) climbed (Undeclared climbed)
 climb (suc left) xs bus kind address climbed =
@@ -83,7 +89,8 @@ seenBy t bus kind address =
 
 -- 24: "query: bus not listed, address kind over 2"
 unfoldable pub addressRules : List ℕ → ℕ → ℕ → List Rule
-addressRules t bus kind = tableRules t ++ (24 when (not (isListed (baseEntries t) bus) || ltb 2 kind) ∷ [])
+addressRules t bus kind = tableRules t ++ (queryNumber when (not (isListed (baseEntries t) bus) || ltb spaceKindMost kind) ∷ [])
 
+-- The answer of the query.
 unfoldable pub seen : List ℕ → ℕ → ℕ → ℕ → Seen
 seen t bus kind address = seenOf (refusal (addressRules t bus kind)) (seenBy t bus kind address)

@@ -5,6 +5,7 @@ use Prim.Native.Nat.{ℕ, zero, suc}
 use mathlib.Core.Bool.{cond}
 use mathlib.Core.List.{List, [], _∷_}
 use lib.Dec.{eqb}
+use Rattle.mps.specs.Refusals.{innerNumber}
 use Rattle.mps.specs.declared.Judged.{Judged}
 use Rattle.mps.specs.declared.Judged.the-variants.{Accepted, Refused as Judged·Refused}
 use Rattle.mps.specs.declared.Held.{Held}
@@ -51,7 +52,7 @@ seenNumbers (Seen·Refused n) = n ∷ []
 abbrev pub editedNumbers : Edited → List ℕ
 editedNumbers Done = 0 ∷ []
 editedNumbers (Edited·Refused n) = n ∷ []
-editedNumbers (Inner n) = 23 ∷ n ∷ []
+editedNumbers (Inner n) = innerNumber ∷ n ∷ []
 
 -- The reader refuses nothing: the length of the entry, 0 where there is none.
 abbrev pub foundNumbers : Found → List ℕ
@@ -82,7 +83,7 @@ seenOf (suc n) seen = Seen·Refused (suc n)
 
 abbrev pub editedOf : ℕ → ℕ → Edited
 editedOf zero inner = Done
-editedOf (suc n) inner = cond (eqb (suc n) 23) (Inner inner) (Edited·Refused (suc n))
+editedOf (suc n) inner = cond (eqb (suc n) innerNumber) (Inner inner) (Edited·Refused (suc n))
 
 abbrev pub foundOf : ℕ → Found
 foundOf zero = Nothing

@@ -6,7 +6,7 @@ use lib.ListN.{length, drop}
 use lib.Dec.{leb, ltb, eqb}
 use Rattle.mps.specs.Words.{part, keep, any, every, each, head, twice, within}
 use Rattle.mps.specs.Sums.{total}
-use Rattle.mps.specs.Layout.{dumpMost, regionsMost, kilobyte, romStart, romEnd, memoryEnd, regionCount, rowLength, rowKind, rowBase, rowSize}
+use Rattle.mps.specs.Layout.{dumpMost, regionsMost, regionStep, kilobyte, romStart, romEnd, memoryEnd, regionCount, rowLength, rowKind, rowBase, rowSize}
 
 -- A region: its kind, its physical base, the offset of its body in the dump, and its length.
 pub record Region : Type 0 where
@@ -58,7 +58,7 @@ kindRule r =
 
 -- "Bases are multiples of 16; base plus length is at most 2^32".
 unfoldable pub soundRegion : Region → Bool
-soundRegion r = kindRule r && eqb (r .base % 16) 0 && leb (endOf r) memoryEnd
+soundRegion r = kindRule r && eqb (r .base % regionStep) 0 && leb (endOf r) memoryEnd
 
 -- ---- The rules of the regions together
 
@@ -72,7 +72,7 @@ overlap [] = false
 overlap (r ∷ rs) = any (share r) rs || overlap rs
 
 abbrev pub onceOnly : Region → Bool
-onceOnly r = leb (r .kind) 3
+onceOnly r = within 1 3 (r .kind)
 
 -- "kinds 1 to 3 occur at most once": whether some kind stands twice.
 unfoldable pub kindTwice : List Region → Bool

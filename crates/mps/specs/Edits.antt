@@ -5,9 +5,9 @@ use mathlib.Core.List.{List, [], _∷_, _++_}
 use lib.ListN.{length, getD, take, set}
 use lib.Seq.{sets}
 use lib.Dec.{ltb, eqb}
-use Rattle.mps.specs.Words.{same, joined}
-use Rattle.mps.specs.Refusals.{Rule, _when_, refusal}
-use Rattle.mps.specs.Sums.{sum256, toStore}
+use Rattle.mps.specs.Words.{same, each}
+use Rattle.mps.specs.Refusals.{Rule, _when_, refusal, innerNumber}
+use Rattle.mps.specs.Sums.{total, sum256, toStore}
 use Rattle.mps.specs.Layout.{Entry, type, headerSize, checksumAt, baseBytes, entryCount, baseEntries}
 use Rattle.mps.specs.Judge.{tableRules, tableRefusal}
 use Rattle.mps.specs.Answers.{editedOf}
@@ -23,12 +23,9 @@ pub record Edit : Type 0 where
 unfoldable pub standing : List ℕ → ℕ → Entry
 standing t place = getD (baseEntries t) place []
 
-abbrev pub itself : Entry → List ℕ
-itself e = e
-
 -- Where it stands: behind the header and the entries before it.
 unfoldable pub offsetOf : List ℕ → ℕ → ℕ
-offsetOf t place = headerSize + length (joined itself (take place (baseEntries t)))
+offsetOf t place = headerSize + total (each length (take place (baseEntries t)))
 
 -- A table with the byte at 7 that brings its base to 0.
 unfoldable pub sealed : List ℕ → List ℕ
@@ -65,7 +62,7 @@ editRules t e =
     ++ (20 when noPlace t e
     ∷ 21 when otherShape t e
     ∷ 22 when changed t e
-    ∷ 23 when not (eqb (innerRefusal t e) 0)
+    ∷ innerNumber when not (eqb (innerRefusal t e) 0)
     ∷ [])
 
 unfoldable pub editRefusal : List ℕ → Edit → ℕ
@@ -73,6 +70,7 @@ editRefusal t e = refusal (editRules t e)
 
 -- ---- The call
 
+-- The answer.
 unfoldable pub edited : List ℕ → Edit → Edited
 edited t e = editedOf (editRefusal t e) (innerRefusal t e)
 
@@ -82,10 +80,12 @@ editLeft t e = cond (eqb (editRefusal t e) 0) (editedTable t e) t
 
 -- ---- A run of edits, accepted and refused mixed: what it leaves, and its answers in their order
 
+-- What a run leaves: each edit is made on what the ones before it left.
 unfoldable pub run : List ℕ → List Edit → List ℕ
 run t [] = t
 run t (e ∷ es) = run (editLeft t e) es
 
+-- The answer of each.
 unfoldable pub runAnswers : List ℕ → List Edit → List Edited
 runAnswers t [] = []
 runAnswers t (e ∷ es) = edited t e ∷ runAnswers (editLeft t e) es

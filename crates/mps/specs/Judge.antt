@@ -3,7 +3,7 @@ use Prim.Native.Nat.{ℕ}
 use mathlib.Core.Bool.{cond, not}
 use mathlib.Core.List.{List, [], _∷_, _++_}
 use Rattle.mps.specs.Words.{only, flag}
-use Rattle.mps.specs.Refusals.{Rule, _when_, refusal}
+use Rattle.mps.specs.Refusals.{Rule, _when_, refusal, baseNumber, typeNumber, cutNumber, orderNumber, extendedNumber}
 use Rattle.mps.specs.Layout.{baseEntries, extendedEntries, feature1, imcr}
 use Rattle.mps.specs.Answers.{judgedOf, heldOf}
 use Rattle.mps.specs.declared.Judged.{Judged}
@@ -14,18 +14,18 @@ use Rattle.mps.specs.Pointer.{noPointer, wrongPointerRevision, wrongFeat
 use Rattle.mps.specs.Table.{headerCut, wrongSignature, wrongBaseLength, wrongBaseSum, wrongRevision, wrongType, cutOrMiscounted, descendingType, wrongExtended}
 use Rattle.mps.specs.Rules.{wrongProcessors, wrongBuses, wrongIoApics, wrongInterrupts, wrongSpaces}
 
--- 5 to 18: "A bare table in a lent buffer is judged as one region holding the buffer".
+-- 5 to 18, with 7 and 10 to 13 by their names: "A bare table in a lent buffer is judged as one region holding the buffer".
 unfoldable pub tableRules : List ℕ → List Rule
 tableRules t =
     5 when headerCut t
     ∷ 6 when wrongSignature t
-    ∷ 7 when wrongBaseLength t
+    ∷ baseNumber when wrongBaseLength t
     ∷ 8 when wrongBaseSum t
     ∷ 9 when wrongRevision t
-    ∷ 10 when wrongType t
-    ∷ 11 when cutOrMiscounted t
-    ∷ 12 when descendingType t
-    ∷ 13 when wrongExtended t
+    ∷ typeNumber when wrongType t
+    ∷ cutNumber when cutOrMiscounted t
+    ∷ orderNumber when descendingType t
+    ∷ extendedNumber when wrongExtended t
     ∷ 14 when wrongProcessors t
     ∷ 15 when wrongBuses (baseEntries t)
     ∷ 16 when wrongIoApics (baseEntries t)
@@ -60,12 +60,12 @@ dumpRefusal d = refusal (dumpRules d)
 unfoldable pub judged : List ℕ → Judged
 judged t = judgedOf (tableRefusal t)
 
--- What the pointer of an accepted dump tells: "default configuration n", or a table.
-unfoldable pub holdsOf : List ℕ → Held
-holdsOf d =
+-- What the pointer of an accepted dump has told: "default configuration n", or a table.
+unfoldable pub told : List ℕ → Held
+told d =
     cond (isDefault d) (Default (feature1 (pointerBytes d)) (flag (imcr (pointerBytes d))))
     (Table (pointer d .address) (flag (imcr (pointerBytes d))) (tableAddress d) (tableStart d) (tableEnd d))
 
 -- The dump reader's answer.
 unfoldable pub held : List ℕ → Held
-held d = heldOf (dumpRefusal d) (holdsOf d)
+held d = heldOf (dumpRefusal d) (told d)

@@ -1,6 +1,7 @@
--- Layouts and limits: every offset, width, length and limit of document 01 stands here once. (The writer's header, in
--- specs/Writing.antt, lays the same fields one behind the other; that the two agree is its round trip.)
--- Document 01, "The floating pointer" and "The table"; MPS 4.1 to 4.4. Reserved bits and bytes have no name: they decide nothing.
+-- Layouts and limits: the offsets, widths, lengths and limits of the dump, the pointer, the table and its entries. The
+-- ranges of MPS Table 4-17 stand in Ranges; the writer's header lays the fields of Table 4-2 one behind the other once more.
+-- Document 01, "The floating pointer" and "The table"; MPS 4.1 to 4.4. "Reserved bits and bytes decide nothing and are kept": only
+-- byte 43 has a name, since the writer takes it.
 use Prim.Native.Nat.{ℕ, _+_, _/_, _%_, _^_}
 use mathlib.Core.Bool.{Bool, cond}
 use mathlib.Core.List.{List}
@@ -34,6 +35,10 @@ romStart = 0xf0000
 abbrev pub romEnd : ℕ
 romEnd = 0x100000
 
+-- "Bases are multiples of 16"
+abbrev pub regionStep : ℕ
+regionStep = 16
+
 -- "base plus length is at most 2^32", of a region; "Base plus length is at most 2^64", of a 128 entry
 abbrev pub memoryEnd : ℕ
 memoryEnd = 2 ^ 32
@@ -41,9 +46,17 @@ memoryEnd = 2 ^ 32
 abbrev pub spaceEnd : ℕ
 spaceEnd = 2 ^ 64
 
--- "pointer revision not 4", "table revision not 4", "the revision it writes is 4"
+-- "the revision it writes is 4"
 abbrev pub specRevision : ℕ
 specRevision = 4
+
+-- "pointer revision not 4", "table revision not 4": the revisions that are read.
+unfoldable pub knownRevision : ℕ → Bool
+knownRevision n = eqb n specRevision
+
+-- "Modifiers touch I/O addresses below 65,536 only"
+abbrev pub modifiedBelow : ℕ
+modifiedBelow = 65536
 
 -- "local APIC address not a multiple of 4,096"; an I/O APIC's "not a multiple of 1,024"
 abbrev pub localApicStep : ℕ
@@ -73,6 +86,14 @@ rowSize s = le 4 s 5
 
 abbrev pub pointerSize : ℕ
 pointerSize = 16
+
+-- "length 1 at 8": one paragraph of sixteen bytes.
+abbrev pub oneParagraph : ℕ
+oneParagraph = 1
+
+-- "Feature byte 1 at 1 to 7"
+abbrev pub defaultMost : ℕ
+defaultMost = 7
 
 abbrev pub pointerSignature : List ℕ → List ℕ
 pointerSignature p = take 4 p
@@ -231,6 +252,10 @@ addressOf e = le 4 e 4
 abbrev pub interruptType : Entry → ℕ
 interruptType e = byte e 1
 
+-- "type 1 (INT 0, NMI 1, SMI 2, ExtINT 3)"
+abbrev pub interruptTypeMost : ℕ
+interruptTypeMost = 3
+
 -- "flags 2 (bits 0-1 polarity, 2-3 trigger ..)"
 abbrev pub polarity : Entry → ℕ
 polarity e = byte e 2 % 4
@@ -249,6 +274,14 @@ destination e = byte e 6
 
 abbrev pub input : Entry → ℕ
 input e = byte e 7
+
+-- "value 2 reserved in each", polarity and trigger
+abbrev pub reservedMode : ℕ
+reservedMode = 2
+
+-- "local input over 1"
+abbrev pub localInputMost : ℕ
+localInputMost = 1
 
 -- "255 names all": a destination, and the ID that no enabled APIC may have.
 abbrev pub everyone : ℕ
@@ -287,6 +320,9 @@ extendedBus e = byte e 2
 abbrev pub spaceKind : Entry → ℕ
 spaceKind e = byte e 3
 
+abbrev pub spaceKindMost : ℕ
+spaceKindMost = 2
+
 abbrev pub spaceBase : Entry → ℕ
 spaceBase e = le 8 e 4
 
@@ -306,3 +342,6 @@ takesBit e = bit 0 (byte e 3)
 
 abbrev pub rangeList : Entry → ℕ
 rangeList e = le 4 e 4
+
+abbrev pub rangeListMost : ℕ
+rangeListMost = 1

@@ -3,9 +3,9 @@ pub mod Refusals
 pub mod Answers
 pub mod Sums
 pub mod Numbers
+pub mod Layout
 pub mod Buses
 pub mod Ranges
-pub mod Layout
 pub mod Dump
 pub mod Pointer
 pub mod Table

@@ -5,7 +5,7 @@ use mathlib.Core.List.{List, [], _∷_, _++_}
 use lib.ListN.{length}
 use lib.Dec.{ltb, eqb}
 use Rattle.mps.specs.Words.{text, flag, keep, joined, put}
-use Rattle.mps.specs.Refusals.{_when_, refusal}
+use Rattle.mps.specs.Refusals.{_when_, refusal, roomNumber}
 use Rattle.mps.specs.Layout.{Entry, type, ofType, processorType, busType, ioApicType, ioInterruptType, mappingType, hierarchyType, modifierType}
 use Rattle.mps.specs.Layout.{feature1, imcr, baseLength, extendedLength, entryCount, baseEntries, extendedEntries, extendedEntryLength}
 use Rattle.mps.specs.Layout.{idOf, version, enabled, bootstrap, nameOf, addressOf}
@@ -31,7 +31,7 @@ decimalDigit d = 48 + d
 unfoldable pub hexDigit : ℕ → ℕ
 hexDigit d = cond (ltb d 10) (48 + d) (55 + d)
 
--- How many decimal digits a number has. Every number that a listing shows so is below 65,536.
+-- How many decimal digits a number has. Every number that the listing of an accepted dump shows so is below 65,536.
 unfoldable pub decimalWidth : ℕ → ℕ
 decimalWidth n = cond (ltb n 10) 1 (cond (ltb n 100) 2 (cond (ltb n 1000) 3 (cond (ltb n 10000) 4 5)))
 
@@ -56,10 +56,12 @@ notSpace c = not (eqb c 32)
 unfoldable pub unpadded : List ℕ → List ℕ
 unpadded name = keep notSpace name
 
+-- "`on`" where enabled, "`off`" where not.
 unfoldable pub onOff : Bool → List ℕ
 unfolding text
 onOff b = cond b (text "on") (text "off")
 
+-- "`boot`" of the bootstrap processor, "`ap`" of the others.
 unfoldable pub bootAp : Bool → List ℕ
 unfolding text
 bootAp b = cond b (text "boot") (text "ap")
@@ -71,14 +73,17 @@ interruptName n = cond (eqb n 0) (text "INT") (cond (eqb n 1) (text "NMI") (cond
 
 -- ---- The lines of the base entries
 
+-- `cpu 0 16 on boot`: ID, version, enabled, bootstrap.
 unfoldable pub cpuLine : Entry → List ℕ
 unfolding text
 cpuLine e = line (text "cpu") (decimal (idOf e) ∷ decimal (version e) ∷ onOff (enabled e) ∷ bootAp (bootstrap e) ∷ [])
 
+-- `bus 0 ISA`: ID, name.
 unfoldable pub busLine : Entry → List ℕ
 unfolding text
 busLine e = line (text "bus") (decimal (idOf e) ∷ unpadded (nameOf e) ∷ [])
 
+-- `ioapic 2 17 on FEC00000`: ID, version, enabled, address.
 unfoldable pub ioApicLine : Entry → List ℕ
 unfolding text
 ioApicLine e = line (text "ioapic") (decimal (idOf e) ∷ decimal (version e) ∷ onOff (enabled e) ∷ hex 8 (addressOf e) ∷ [])
@@ -96,6 +101,7 @@ interruptLine word e =
     ∷ decimal (input e)
     ∷ [])
 
+-- The line of a base entry, by its type.
 unfoldable pub baseLine : Entry → List ℕ
 unfolding text
 baseLine e =
@@ -127,6 +133,7 @@ unfoldable pub skipLine : Entry → List ℕ
 unfolding text
 skipLine e = line (text "skip") (decimal (type e) ∷ decimal (extendedEntryLength e) ∷ [])
 
+-- The line of an extended entry, by its type.
 unfoldable pub extendedLine : Entry → List ℕ
 extendedLine e =
     cond (ofType mappingType e) (mapLine e)
@@ -140,6 +147,7 @@ unfoldable pub defaultLine : List ℕ → List ℕ
 unfolding text
 defaultLine p = line (text "default") (decimal (feature1 p) ∷ text "imcr" ∷ decimal (flag (imcr p)) ∷ [])
 
+-- `pointer 000F0000 imcr 0`: where it stands, and its IMCR bit.
 unfoldable pub pointerLine : ℕ → List ℕ → List ℕ
 unfolding text
 pointerLine address p = line (text "pointer") (hex 8 address ∷ text "imcr" ∷ decimal (flag (imcr p)) ∷ [])
@@ -151,6 +159,7 @@ tableLine address t =
     line (text "table")
     (hex 8 address ∷ decimal (baseLength t) ∷ decimal (extendedLength t) ∷ decimal (entryCount t) ∷ [])
 
+-- `end`
 unfoldable pub endLine : List ℕ
 unfolding text
 endLine = line (text "end") []
@@ -178,8 +187,9 @@ programOutput d = cond (eqb (dumpRefusal d) 0) (listing d) (refusedLine (dumpRef
 -- ---- The call: "the listing tests 1 to 18, then 19"
 
 unfoldable pub listRefusal : List ℕ → List ℕ → ℕ
-listRefusal d room = refusal (dumpRules d ++ (19 when ltb (length room) (length (listing d)) ∷ []))
+listRefusal d room = refusal (dumpRules d ++ (roomNumber when ltb (length room) (length (listing d)) ∷ []))
 
+-- How many bytes stand in the room.
 unfoldable pub listed : List ℕ → List ℕ → Written
 listed d room = writtenOf (listRefusal d room) (length (listing d))
 

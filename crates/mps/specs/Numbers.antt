@@ -8,7 +8,7 @@ unfoldable pub le : ℕ → List ℕ → ℕ → ℕ
 le zero s at = 0
 le (suc k) s at = byte s at + 256 * le k s (at + 1)
 
--- The k bytes of a number.
+-- The lowest k bytes of a number, the lowest first.
 unfoldable pub bytes : ℕ → ℕ → List ℕ
 bytes zero n = []
 bytes (suc k) n = n % 256 ∷ bytes k (n / 256)

@@ -6,7 +6,7 @@ use lib.ListN.{length}
 use lib.Dec.{ltb, eqb}
 use Rattle.mps.specs.Words.{text, same, part, cut, only, keep, any, none, head, joined}
 use Rattle.mps.specs.Sums.{sum256}
-use Rattle.mps.specs.Layout.{specRevision, pointerSize, pointerSignature, pointerTable, pointerParagraphs, pointerRevision, feature1}
+use Rattle.mps.specs.Layout.{knownRevision, defaultMost, oneParagraph, pointerSize, pointerSignature, pointerTable, pointerParagraphs, pointerRevision, feature1}
 use Rattle.mps.specs.Dump.{Region, regions, body, ofKind, holding}
 
 -- Sixteen bytes that may be a pointer, and their address.
@@ -32,7 +32,7 @@ unfolding text
 good c =
     eqb (length (c .bytes)) pointerSize
     && same (pointerSignature (c .bytes)) (text "_MP_")
-    && eqb (pointerParagraphs (c .bytes)) 1
+    && eqb (pointerParagraphs (c .bytes)) oneParagraph
     && eqb (sum256 (c .bytes)) 0
 
 -- "Search kind 1, then kind 2 only if no kind 1 region is listed (even an empty one counts as listed), then kind 3".
@@ -70,12 +70,12 @@ noPointer d = none (pointers d)
 
 -- 3: "pointer revision not 4"
 unfoldable pub wrongPointerRevision : List ℕ → Bool
-wrongPointerRevision d = not (eqb (pointerRevision (pointerBytes d)) specRevision)
+wrongPointerRevision d = not (knownRevision (pointerRevision (pointerBytes d)))
 
 -- 4: "feature byte over 7; 1 to 7 with nonzero address; 0 with address 0"
 unfoldable pub wrongFeature : List ℕ → Bool
 wrongFeature d =
-    ltb 7 (feature1 (pointerBytes d))
+    ltb defaultMost (feature1 (pointerBytes d))
     || isDefault d && not (eqb (tableAddress d) 0)
     || not (isDefault d) && eqb (tableAddress d) 0
 

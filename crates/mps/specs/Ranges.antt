@@ -3,6 +3,7 @@ use Prim.Native.Nat.{ℕ, _+_, _*_, _%_}
 use mathlib.Core.Bool.{Bool, _||_, _&&_}
 use lib.Dec.{ltb, eqb}
 use Rattle.mps.specs.Words.{flag, within}
+use Rattle.mps.specs.Layout.{modifiedBelow}
 
 -- "ISA when the low ten bits are 100h to 3FFh".
 unfoldable pub isa : ℕ → Bool
@@ -15,13 +16,9 @@ vga address = within 0x3b0 0x3bb (address % 1024) || within 0x3c0 0x3df (address
 -- "A table of 1,024 places for the low ten address bits": what the constant table of the crate tables must hold, bit 0 for
 -- ISA and bit 1 for VGA.
 unfoldable pub rangesAt : ℕ → ℕ
-rangesAt place = flag (isa place) + 2 * flag (vga place)
+rangesAt address = flag (isa address) + 2 * flag (vga address)
 
--- "Modifiers touch I/O addresses below 65,536 only"
-abbrev pub modifiedBelow : ℕ
-modifiedBelow = 65536
-
--- Whether an I/O address lies in a predefined list: 0 is ISA, 1 is VGA.
+-- Whether an I/O address lies in a predefined list, 0 for ISA and 1 for VGA: "below 65,536 only".
 unfoldable pub inList : ℕ → ℕ → Bool
 inList list address = ltb address modifiedBelow && (eqb list 0 && isa address || eqb list 1 && vga address)
 

@@ -8,6 +8,38 @@ infix 70 _when_
 pub data Rule : Type 0 where
   _when_ : ℕ → Bool → Rule
 
+-- A number stands in the row that gives it, as in the paper's table. These are given in more than one place:
+
+-- "base length under 44, over 4,096 or past the region", and the writer's "if the base would pass 4,096"
+abbrev pub baseNumber : ℕ
+baseNumber = 7
+
+-- The three faults of a base entry.
+abbrev pub typeNumber : ℕ
+typeNumber = 10
+
+abbrev pub cutNumber : ℕ
+cutNumber = 11
+
+abbrev pub orderNumber : ℕ
+orderNumber = 12
+
+-- The extended part's, and the writer's "if the extended part would".
+abbrev pub extendedNumber : ℕ
+extendedNumber = 13
+
+-- "answer longer than the lent room"
+abbrev pub roomNumber : ℕ
+roomNumber = 19
+
+-- "the edited table would be refused; the inner number is given too"
+abbrev pub innerNumber : ℕ
+innerNumber = 23
+
+-- "query: bus not listed, address kind over 2 or interrupt type over 3"
+abbrev pub queryNumber : ℕ
+queryNumber = 24
+
 -- The number of the first row that is so, in the order of the rows; 0 where none is.
 unfoldable pub refusal : List Rule → ℕ
 refusal [] = 0

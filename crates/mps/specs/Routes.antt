@@ -5,17 +5,17 @@ use mathlib.Core.List.{List, [], _∷_, _++_}
 use lib.ListN.{length}
 use lib.Dec.{ltb, eqb}
 use Rattle.mps.specs.Words.{keep, joined, put}
-use Rattle.mps.specs.Refusals.{Rule, _when_, refusal}
-use Rattle.mps.specs.Layout.{Entry, ofType, idOf, interruptType, sourceBus, sourceIrq, destination, input, everyone, baseEntries}
+use Rattle.mps.specs.Refusals.{Rule, _when_, refusal, roomNumber, queryNumber}
+use Rattle.mps.specs.Layout.{Entry, ofType, interruptTypeMost, idOf, interruptType, sourceBus, sourceIrq, destination, input, everyone, baseEntries}
 use Rattle.mps.specs.Rules.{Side, enabledOf, isListed}
 use Rattle.mps.specs.Judge.{tableRules}
 use Rattle.mps.specs.Answers.{routedOf}
 use Rattle.mps.specs.declared.Routed.{Routed}
 
--- Whether an interrupt entry of a side has this interrupt type, source bus and source IRQ, each byte for byte.
+-- Whether an interrupt entry of a side has this interrupt type, source bus and source IRQ, each compared as a whole byte.
 unfoldable pub matches : Side → ℕ → ℕ → ℕ → Entry → Bool
-matches side kind bus irq e =
-    ofType (side .interrupts) e && eqb (interruptType e) kind && eqb (sourceBus e) bus && eqb (sourceIrq e) irq
+matches side itype bus irq e =
+    ofType (side .interrupts) e && eqb (interruptType e) itype && eqb (sourceBus e) bus && eqb (sourceIrq e) irq
 
 -- Whether an interrupt entry names an APIC: "255 names all".
 unfoldable pub names : Entry → Entry → Bool
@@ -34,31 +34,31 @@ pairsTo apics e = joined (pair e) (keep (names e) apics)
 
 -- "entries in table order": the bytes of all the pairs.
 unfoldable pub routes : Side → List Entry → ℕ → ℕ → ℕ → List ℕ
-routes side es kind bus irq = joined (pairsTo (enabledOf (side .targets) es)) (keep (matches side kind bus irq) es)
+routes side es itype bus irq = joined (pairsTo (enabledOf (side .targets) es)) (keep (matches side itype bus irq) es)
 
 -- The pairs of a table for a query.
 unfoldable pub routesOf : Side → List ℕ → ℕ → ℕ → ℕ → List ℕ
-routesOf side t kind bus irq = routes side (baseEntries t) kind bus irq
+routesOf side t itype bus irq = routes side (baseEntries t) itype bus irq
 
 -- ---- The query: "queries test the table, then 24, then 19"
 
 -- 24: "query: bus not listed .. or interrupt type over 3"
 unfoldable pub routeRules : Side → List ℕ → ℕ → ℕ → ℕ → List ℕ → List Rule
-routeRules side t kind bus irq room =
+routeRules side t itype bus irq room =
     tableRules t
-    ++ (24 when (not (isListed (baseEntries t) bus) || ltb 3 kind)
-    ∷ 19 when ltb (length room) (length (routesOf side t kind bus irq))
+    ++ (queryNumber when (not (isListed (baseEntries t) bus) || ltb interruptTypeMost itype)
+    ∷ roomNumber when ltb (length room) (length (routesOf side t itype bus irq))
     ∷ [])
 
 unfoldable pub routeRefusal : Side → List ℕ → ℕ → ℕ → ℕ → List ℕ → ℕ
-routeRefusal side t kind bus irq room = refusal (routeRules side t kind bus irq room)
+routeRefusal side t itype bus irq room = refusal (routeRules side t itype bus irq room)
 
 -- "No match is count 0."
 unfoldable pub routed : Side → List ℕ → ℕ → ℕ → ℕ → List ℕ → Routed
-routed side t kind bus irq room =
-    routedOf (routeRefusal side t kind bus irq room) (length (routesOf side t kind bus irq) / pairSize)
+routed side t itype bus irq room =
+    routedOf (routeRefusal side t itype bus irq room) (length (routesOf side t itype bus irq) / pairSize)
 
 -- What the query leaves in its room: nothing new at a refusal.
 unfoldable pub routesLeft : Side → List ℕ → ℕ → ℕ → ℕ → List ℕ → List ℕ
-routesLeft side t kind bus irq room =
-    cond (eqb (routeRefusal side t kind bus irq room) 0) (put (routesOf side t kind bus irq) room) room
+routesLeft side t itype bus irq room =
+    cond (eqb (routeRefusal side t itype bus irq room) 0) (put (routesOf side t itype bus irq) room) room

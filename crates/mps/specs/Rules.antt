@@ -1,5 +1,6 @@
 -- What the entries of a table must say: refusals 14 to 18. Document 01, the table of refusals; MPS 4.3 and 4.4.
--- es are the base entries of a table and xs its extended entries: each rule is tested over the whole table.
+-- es are the base entries of a table and xs its extended entries: each rule is tested over the whole table. 14 takes the
+-- table itself, for the local APIC address of its header.
 use Prim.Native.Nat.{ℕ, zero, suc, _+_, _%_}
 use mathlib.Core.Bool.{Bool, false, not, _||_}
 use mathlib.Core.List.{List, [], _∷_}
@@ -9,7 +10,7 @@ use Rattle.mps.specs.Words.{among, twice, common, keep, any, every, each
 use Rattle.mps.specs.Buses.{isBusName}
 use Rattle.mps.specs.Layout.{Entry, ofType, processorType, busType, ioApicType, ioInterruptType, localInterruptType}
 use Rattle.mps.specs.Layout.{localApicStep, ioApicStep, spaceEnd, idOf, enabled, bootstrap, nameOf, addressOf, localApic, baseEntries, everyone}
-use Rattle.mps.specs.Layout.{interruptType, polarity, trigger, sourceBus, destination, input}
+use Rattle.mps.specs.Layout.{interruptTypeMost, reservedMode, localInputMost, spaceKindMost, rangeListMost, interruptType, polarity, trigger, sourceBus, destination, input}
 use Rattle.mps.specs.Layout.{mappingType, hierarchyType, modifierType, extendedBus, spaceKind, spaceBase, spaceLength, parentBus, rangeList}
 
 -- The entries of one type that are enabled: processors, or I/O APICs.
@@ -26,6 +27,7 @@ enabledIds n es = each idOf (enabledOf n es)
 
 -- ---- 14
 
+-- The bootstrap entries, enabled or not.
 unfoldable pub bootstraps : List Entry → List Entry
 bootstraps es = keep bootstrap (keep (ofType processorType) es)
 
@@ -84,19 +86,21 @@ isListed es bus = among bus (idsOf busType es)
 -- I/O APIC (type 3) or processor (type 4), enabled or not"
 unfoldable pub wrongInterrupt : List Entry → ℕ → Entry → Bool
 wrongInterrupt es targets e =
-    ltb 3 (interruptType e)
-    || eqb (polarity e) 2
-    || eqb (trigger e) 2
+    ltb interruptTypeMost (interruptType e)
+    || eqb (polarity e) reservedMode
+    || eqb (trigger e) reservedMode
     || not (isListed es (sourceBus e))
     || not (eqb (destination e) everyone || among (destination e) (idsOf targets es))
 
 -- "local input over 1"
 unfoldable pub wrongInput : Entry → Bool
-wrongInput e = ltb 1 (input e)
+wrongInput e = ltb localInputMost (input e)
 
+-- Whether some interrupt entry of a side is wrong so.
 unfoldable pub wrongOnSide : Side → List Entry → Bool
 wrongOnSide side es = any (wrongInterrupt es (side .targets)) (keep (ofType (side .interrupts)) es)
 
+-- 17: the above on either side, or "local input over 1".
 unfoldable pub wrongInterrupts : List Entry → Bool
 wrongInterrupts es = wrongOnSide ioSide es || wrongOnSide localSide es || any wrongInput (keep (ofType localInterruptType) es)
 
@@ -105,7 +109,7 @@ wrongInterrupts es = wrongOnSide ioSide es || wrongOnSide localSide es || any wr
 -- A 128 entry: "extended bus .. not listed; kind over 2; range past 2^64".
 unfoldable pub wrongMapping : List Entry → Entry → Bool
 wrongMapping es e =
-    not (isListed es (extendedBus e)) || ltb 2 (spaceKind e) || ltb spaceEnd (spaceBase e + spaceLength e)
+    not (isListed es (extendedBus e)) || ltb spaceKindMost (spaceKind e) || ltb spaceEnd (spaceBase e + spaceLength e)
 
 -- A 129 entry: "extended bus or parent not listed".
 unfoldable pub wrongHierarchy : List Entry → Entry → Bool
@@ -113,12 +117,13 @@ wrongHierarchy es e = not (isListed es (extendedBus e)) || not (isListed es (par
 
 -- A 130 entry: "extended bus .. not listed; .. list over 1".
 unfoldable pub wrongModifier : List Entry → Entry → Bool
-wrongModifier es e = not (isListed es (extendedBus e)) || ltb 1 (rangeList e)
+wrongModifier es e = not (isListed es (extendedBus e)) || ltb rangeListMost (rangeList e)
 
 -- The links: every type 129 entry is one, with or without the subtractive bit.
 unfoldable pub links : List Entry → List Entry
 links xs = keep (ofType hierarchyType) xs
 
+-- Whether an extended entry is of a bus.
 abbrev pub onBus : ℕ → Entry → Bool
 onBus bus e = eqb (extendedBus e) bus
 

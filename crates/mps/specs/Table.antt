@@ -6,8 +6,9 @@ use mathlib.Core.List.{List, [], _∷_}
 use lib.ListN.{length}
 use lib.Dec.{ltb, eqb}
 use Rattle.mps.specs.Words.{text, same, first}
+use Rattle.mps.specs.Refusals.{typeNumber, cutNumber, orderNumber}
 use Rattle.mps.specs.Sums.{sum256}
-use Rattle.mps.specs.Layout.{Entry, type, specRevision, lastBaseType, firstExtendedType, leastLength, partMost, headerSize, signature, revision, baseLength, baseBytes, entryCount, extendedLength}
+use Rattle.mps.specs.Layout.{Entry, type, knownRevision, lastBaseType, firstExtendedType, leastLength, partMost, headerSize, signature, revision, baseLength, baseBytes, entryCount, extendedLength}
 use Rattle.mps.specs.Layout.{extendedChecksum, extendedEnd, extendedPart, baseEntryLength, extendedEntryLength, ownLength, baseEntries, extendedEntries}
 
 -- 5: "44 header bytes not in one region"
@@ -29,7 +30,7 @@ wrongBaseSum t = not (eqb (sum256 (baseBytes t)) 0)
 
 -- 9: "table revision not 4"
 unfoldable pub wrongRevision : List ℕ → Bool
-wrongRevision t = not (eqb (revision t) specRevision)
+wrongRevision t = not (knownRevision (revision t))
 
 -- ---- The walk over the base entries
 
@@ -37,7 +38,7 @@ wrongRevision t = not (eqb (revision t) specRevision)
 -- 12 "type below the one before", the lower number first; 0 where it has none.
 unfoldable pub entryFault : ℕ → Entry → ℕ
 entryFault before e =
-    cond (ltb lastBaseType (type e)) 10 (cond (ltb (length e) (baseEntryLength e)) 11 (cond (ltb (type e) before) 12 0))
+    cond (ltb lastBaseType (type e)) typeNumber (cond (ltb (length e) (baseEntryLength e)) cutNumber (cond (ltb (type e) before) orderNumber 0))
 
 -- "the first faulty entry decides"
 unfoldable pub walkFrom : ℕ → List Entry → ℕ
@@ -49,15 +50,15 @@ walkFault t = walkFrom 0 (baseEntries t)
 
 -- 10: "base type over 4"
 unfoldable pub wrongType : List ℕ → Bool
-wrongType t = eqb (walkFault t) 10
+wrongType t = eqb (walkFault t) typeNumber
 
 -- 11: "entry cut by the base end, or count differs after the walk"; "the count is compared only where no entry is faulty"
 unfoldable pub cutOrMiscounted : List ℕ → Bool
-cutOrMiscounted t = eqb (walkFault t) 11 || eqb (walkFault t) 0 && not (eqb (length (baseEntries t)) (entryCount t))
+cutOrMiscounted t = eqb (walkFault t) cutNumber || eqb (walkFault t) 0 && not (eqb (length (baseEntries t)) (entryCount t))
 
 -- 12: "type below the one before"
 unfoldable pub descendingType : List ℕ → Bool
-descendingType t = eqb (walkFault t) 12
+descendingType t = eqb (walkFault t) orderNumber
 
 -- ---- The walk over the extended entries
 
@@ -70,6 +71,7 @@ extendedFault before e =
     || ltb (type e) before
     || not (eqb (extendedEntryLength e) (ownLength e))
 
+-- Whether some entry has such a fault.
 unfoldable pub extendedFrom : ℕ → List Entry → Bool
 extendedFrom before [] = false
 extendedFrom before (e ∷ es) = extendedFault before e || extendedFrom (type e) es

@@ -5,7 +5,7 @@ use mathlib.Core.List.{List, [], _∷_, _++_}
 use lib.ListN.{length, replicate}
 use lib.Dec.{ltb, eqb}
 use Rattle.mps.specs.Words.{text, cut, exactly, put, first}
-use Rattle.mps.specs.Refusals.{_when_, refusal}
+use Rattle.mps.specs.Refusals.{_when_, refusal, baseNumber, extendedNumber, roomNumber}
 use Rattle.mps.specs.Sums.{sum256, toStore}
 use Rattle.mps.specs.Numbers.{bytes}
 use Rattle.mps.specs.Layout.{specRevision, partMost, headerSize, baseEntryLength, basePart, extendedPart}
@@ -77,24 +77,25 @@ imageSize p = baseSize p + length (p .extended)
 -- ---- The call
 
 -- "It refuses 7 if the base would pass 4,096, 13 if the extended part would, then 19, all unwritten".
-unfoldable pub unwritten : Parts → List ℕ → ℕ
-unwritten p room =
+unfoldable pub earlyRefusal : Parts → List ℕ → ℕ
+earlyRefusal p room =
     refusal
-    (7 when ltb partMost (baseSize p)
-    ∷ 13 when ltb partMost (length (p .extended))
-    ∷ 19 when ltb (length room) (imageSize p)
+    (baseNumber when ltb partMost (baseSize p)
+    ∷ extendedNumber when ltb partMost (length (p .extended))
+    ∷ roomNumber when ltb (length room) (imageSize p)
     ∷ [])
 
 -- ".. then the finished image is judged"
 unfoldable pub writeRefusal : Parts → List ℕ → ℕ
-writeRefusal p room = first (unwritten p room) (tableRefusal (image p))
+writeRefusal p room = first (earlyRefusal p room) (tableRefusal (image p))
 
+-- How many bytes stand in the room.
 unfoldable pub written : Parts → List ℕ → Written
 written p room = writtenOf (writeRefusal p room) (imageSize p)
 
 -- ".. and a refusal leaves its bytes zero and the rest unchanged."
 unfoldable pub writeLeft : Parts → List ℕ → List ℕ
 writeLeft p room =
-    cond (eqb (unwritten p room) 0)
+    cond (eqb (earlyRefusal p room) 0)
     (cond (eqb (tableRefusal (image p)) 0) (put (image p) room) (put (replicate (imageSize p) 0) room))
     room

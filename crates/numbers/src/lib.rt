@@ -1,5 +1,5 @@
 // Numbers in bytes: one byte, and little-endian numbers of 2, 4 and 8 bytes, read from a slice and stored in one.
-// Each function is its definition in crates/mps/specs/Numbers.antt, at every place of every slice: a byte past the
+// The numbers are `le` and `bytes` of crates/mps/specs/Numbers.antt, at every place of every slice: a byte past the
 // end reads as 0, and a store past the end does nothing. proofs/Laws.antt has the laws over any width.
 ghost use mathlib.Core.Path.{_≡_};
 ghost use Prim.Native.Nat.{_-_, _^_, _≤_, _<_};
@@ -13,7 +13,7 @@ pub fn byte(s: &[u8], at: usize) -> u8
     if at < s.len() { s[at] } else { 0 }
 }
 
-// The bound is what a caller cannot see: that the number was a byte.
+// The bound is said because a caller sees a number, and not that it came from a byte.
 pub fn wide(x: u8) -> u64
     ensures { λ r. ⌜ (r ≡ x) × (r < 256) ⌝ }
 {
@@ -100,4 +100,10 @@ pub fn put32(out: &mut [u8], at: usize, x: u32)
     ensures { λ _. ⌜ now (out .exit) ≡ sets (now (out .entry)) at (bytes 4 x) ⌝ }
 {
     put_any(out, at, x as u64, 4);
+}
+
+pub fn put64(out: &mut [u8], at: usize, x: u64)
+    ensures { λ _. ⌜ now (out .exit) ≡ sets (now (out .entry)) at (bytes 8 x) ⌝ }
+{
+    put_any(out, at, x, 8);
 }

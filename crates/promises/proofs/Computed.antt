@@ -5,18 +5,18 @@ use Rattle.mps.specs.Words.{text, bit, same, among, twice, common, keep, any, e
 use Rattle.mps.specs.Refusals.{refusal}
 use Rattle.mps.specs.Sums.{total, sum256, toStore}
 use Rattle.mps.specs.Numbers.{le, bytes}
+use Rattle.mps.specs.Layout.{knownRevision, baseEntryLength, baseEntries, extendedEntries, ownLength}
 use Rattle.mps.specs.Buses.{busNames, isBusName}
 use Rattle.mps.specs.Ranges.{isa, vga, rangesAt, inList, printedIsa, printedVga}
-use Rattle.mps.specs.Layout.{baseEntryLength, baseEntries, extendedEntries, ownLength}
 use Rattle.mps.specs.Dump.{regionsFrom, regions, kindRule, soundRegion, share, overlap, kindTwice, endsWithLast, soundDump, holds, holding}
 use Rattle.mps.specs.Pointer.{addressed, candidates, good, searched, pointers, pointer, isDefault, noPointer, wrongPointerRevision, wrongFeature, tableStart, tableEnd, tableIn}
 use Rattle.mps.specs.Table.{headerCut, wrongSignature, wrongBaseLength, wrongBaseSum, wrongRevision, entryFault, walkFrom, walkFault, wrongType, cutOrMiscounted, descendingType, extendedFault, extendedFrom, wrongExtended}
 use Rattle.mps.specs.Rules.{enabledOf, idsOf, enabledIds, bootstraps, wrongProcessors, unknownName, wrongBuses, misplaced, wrongIoApics, isListed, wrongInterrupt, wrongInput, wrongOnSide, wrongInterrupts, wrongMapping, wrongHierarchy, wrongModifier, links, parentsOf, climbsTo, onCircle, circle, wrongSpaces}
-use Rattle.mps.specs.Judge.{tableRules, tableRefusal, pointerRules, dumpRules, dumpRefusal, judged, holdsOf, held}
+use Rattle.mps.specs.Judge.{tableRules, tableRefusal, pointerRules, dumpRules, dumpRefusal, judged, told, held}
 use Rattle.mps.specs.Routes.{matches, names, pair, pairsTo, routes, routesOf, routeRules, routeRefusal, routed, routesLeft}
-use Rattle.mps.specs.Addresses.{covers, touches, takesAway, adds, coversOrAdds, declares, subtractive, says, climb, seenBy, addressRules, seen}
+use Rattle.mps.specs.Addresses.{covers, touches, takesAway, adds, coversOrAdds, hasEntry, subtractive, says, climb, seenBy, addressRules, seen}
 use Rattle.mps.specs.Listing.{digits, decimalDigit, hexDigit, decimalWidth, decimal, hex, line, unpadded, onOff, bootAp, interruptName, cpuLine, busLine, ioApicLine, interruptLine, baseLine, mapLine, treeLine, modLine, skipLine, extendedLine, defaultLine, pointerLine, tableLine, endLine, tableLines, listing, refusedLine, programOutput, listRefusal, listed, listLeft}
-use Rattle.mps.specs.Writing.{fieldsOf, partsOf, header, extendedSumOf, baseSumOf, image, unwritten, writeRefusal, written, writeLeft}
+use Rattle.mps.specs.Writing.{fieldsOf, partsOf, header, extendedSumOf, baseSumOf, image, earlyRefusal, writeRefusal, written, writeLeft}
 use Rattle.mps.specs.Edits.{standing, offsetOf, sealed, editedTable, noPlace, otherShape, changed, innerRefusal, editRules, editRefusal, edited, editLeft, run, runAnswers}
 use Rattle.mps.specs.Reader.{baseStep, extendedStep, entrySize, entryAt, nextPlace, found}
 
@@ -36,6 +36,10 @@ ofNumbers : ℕ
 unfolding le bytes
 ofNumbers = 0
 
+ofLayout : ℕ
+unfolding knownRevision baseEntryLength baseEntries extendedEntries ownLength
+ofLayout = 0
+
 ofBuses : ℕ
 unfolding busNames isBusName
 ofBuses = 0
@@ -43,10 +47,6 @@ ofBuses = 0
 ofRanges : ℕ
 unfolding isa vga rangesAt inList printedIsa printedVga
 ofRanges = 0
-
-ofLayout : ℕ
-unfolding baseEntryLength baseEntries extendedEntries ownLength
-ofLayout = 0
 
 ofDump : ℕ
 unfolding regionsFrom regions kindRule soundRegion share overlap kindTwice endsWithLast soundDump holds holding
@@ -65,7 +65,7 @@ unfolding enabledOf idsOf enabledIds bootstraps wrongProcessors unknownName wron
 ofRules = 0
 
 ofJudge : ℕ
-unfolding tableRules tableRefusal pointerRules dumpRules dumpRefusal judged holdsOf held
+unfolding tableRules tableRefusal pointerRules dumpRules dumpRefusal judged told held
 ofJudge = 0
 
 ofRoutes : ℕ
@@ -73,7 +73,7 @@ unfolding matches names pair pairsTo routes routesOf routeRules routeRefusal rou
 ofRoutes = 0
 
 ofAddresses : ℕ
-unfolding covers touches takesAway adds coversOrAdds declares subtractive says climb seenBy addressRules seen
+unfolding covers touches takesAway adds coversOrAdds hasEntry subtractive says climb seenBy addressRules seen
 ofAddresses = 0
 
 ofListing : ℕ
@@ -81,7 +81,7 @@ unfolding digits decimalDigit hexDigit decimalWidth decimal hex line unpadded on
 ofListing = 0
 
 ofWriting : ℕ
-unfolding fieldsOf partsOf header extendedSumOf baseSumOf image unwritten writeRefusal written writeLeft
+unfolding fieldsOf partsOf header extendedSumOf baseSumOf image earlyRefusal writeRefusal written writeLeft
 ofWriting = 0
 
 ofEdits : ℕ
@@ -93,5 +93,5 @@ unfolding baseStep extendedStep entrySize entryAt nextPlace found
 ofReader = 0
 
 unfoldable pub computed : ℕ
-unfolding ofWords ofRefusals ofSums ofNumbers ofBuses ofRanges ofLayout ofDump ofPointer ofTable ofRules ofJudge ofRoutes ofAddresses ofListing ofWriting ofEdits ofReader
+unfolding ofWords ofRefusals ofSums ofNumbers ofLayout ofBuses ofRanges ofDump ofPointer ofTable ofRules ofJudge ofRoutes ofAddresses ofListing ofWriting ofEdits ofReader
 computed = 0

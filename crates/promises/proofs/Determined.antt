@@ -9,6 +9,7 @@ use Rattle.numbers.proofs.le32.Reads as le32
 use Rattle.numbers.proofs.le64.Reads as le64
 use Rattle.numbers.proofs.put16.Reads as put16
 use Rattle.numbers.proofs.put32.Reads as put32
+use Rattle.numbers.proofs.put64.Reads as put64
 use Rattle.sets.proofs.empty.Reads as empty
 use Rattle.sets.proofs.put.Reads as put
 use Rattle.sets.proofs.contains.Reads as contains
@@ -50,6 +51,9 @@ put16-determined κ a x y s t p q = p ∙ sym q
 
 pub put32-determined : Leaves put32.Post (λ κ s. now (s .0))
 put32-determined κ a x y s t p q = p ∙ sym q
+
+pub put64-determined : Leaves put64.Post (λ κ s. now (s .0))
+put64-determined κ a x y s t p q = p ∙ sym q
 
 -- ---- sets
 

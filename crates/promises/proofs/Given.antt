@@ -1,9 +1,10 @@
 -- "Given exactly when": a dump or a bare table is refused with a number if and only if that number's row of document 01 is
--- so and no row tested before it is. One theorem, `given-exactly` of laws, serves every number. Assumes nothing.
-use Prim.Native.Nat.{ℕ}
-use mathlib.Core.Path.{_≡_, refl, _∙_}
+-- so and no row tested before it is, and accepted if and only if no row is so. One theorem of laws, `given-exactly`, serves
+-- every number. Assumes nothing.
+use Prim.Native.Nat.{ℕ, _<_}
+use mathlib.Core.Path.{_≡_, refl, sym, _∙_}
 use mathlib.Core.Bool.{Bool, true, false, not}
-use mathlib.Core.List.{List, _++_}
+use mathlib.Core.List.{List, [], _∷_, _++_}
 use mathlib.Core.Logic.{_↔_}
 use native.Mathlib.Omega.{arith}
 use lib.ListN.{take, drop}
@@ -15,7 +16,7 @@ use Rattle.mps.specs.Pointer.{noPointer, wrongPointerRevision, wrongFeature, is
 use Rattle.mps.specs.Table.{headerCut, wrongSignature, wrongBaseLength, wrongBaseSum, wrongRevision, wrongType, cutOrMiscounted, descendingType, wrongExtended}
 use Rattle.mps.specs.Rules.{wrongProcessors, wrongBuses, wrongIoApics, wrongInterrupts, wrongSpaces}
 use Rattle.mps.specs.Judge.{tableRules, tableRefusal, pointerRules, dumpRules, dumpRefusal}
-use Rattle.laws.proofs.Refusals.{so, refusal-passed, given-exactly, absent-only}
+use Rattle.laws.proofs.Refusals.{so, refusal-passed, refusal-none, refusal-behind, given-exactly, absent-only}
 
 -- A number is given exactly when its row is so and none of the rows before it is.
 abbrev Exactly : ℕ → ℕ → List Rule → Bool → Type 0
@@ -64,7 +65,29 @@ pub given-default : (d : List ℕ) → any so (pointerRules d) ≡ false → isD
 unfolding dumpRefusal dumpRules refusal
 given-default d e f = refusal-passed (pointerRules d) (tableRows d) e ∙ rw f
 
+-- 5 to 18, of a dump: exactly where 1 to 4 are passed, it is no default, and its table is refused so.
+pub given-in-dump :
+    (d : List ℕ) (n : ℕ) → 0 < n → among n (1 ∷ 2 ∷ 3 ∷ 4 ∷ []) ≡ false
+    → (dumpRefusal d ≡ n) ↔ ((any so (pointerRules d) ≡ false) × (isDefault d ≡ false) × (tableRefusal (tableIn d) ≡ n))
+unfolding dumpRefusal dumpRules pointerRules each
+given-in-dump d n p f = (to, λ h. given-table d (h .0) (h .1) ∙ h .2)
+  where
+    passed : dumpRefusal d ≡ n → any so (pointerRules d) ≡ false
+    passed e = refusal-behind n (pointerRules d) (tableRows d) f e
+
+    no-default : (b : Bool) → isDefault d ≡ b → dumpRefusal d ≡ n → isDefault d ≡ false
+    no-default false q e = q
+    no-default true q e = absurd (omega (arith, p, given-default d (passed e) q, e))
+
+    to : dumpRefusal d ≡ n → (any so (pointerRules d) ≡ false) × (isDefault d ≡ false) × (tableRefusal (tableIn d) ≡ n)
+    to e = let q = no-default (isDefault d) refl e in (passed e, q, sym (given-table d (passed e) q) ∙ e)
+
 -- ---- A bare table: 5 to 18
+
+-- Accepted: no row is so. This is what a judge that refuses everything would have to deny.
+pub given-none : (t : List ℕ) → (tableRefusal t ≡ 0) ↔ (any so (tableRules t) ≡ false)
+unfolding tableRefusal tableRules among each
+given-none t = refusal-none (tableRules t) refl
 
 -- 5: 44 header bytes not in one region
 pub given-5 : (t : List ℕ) → Exactly (tableRefusal t) 5 (take 0 (tableRules t)) (headerCut t)

@@ -1,5 +1,8 @@
 pub mod Computed
-pub mod Cases
 pub mod Printed
+pub mod Cases
+pub mod Bench
 pub mod Given
+pub mod Climb
+pub mod Image
 pub mod Determined

@@ -1,12 +1,13 @@
 -- Document 01, "On both sides of a line": P1 to P12, as one table. A row has what the definitions give and what the paper
--- wants; answers are the paper's numbers (mps, specs/Answers.antt), and what a call leaves stands behind its answer.
+-- wants. Answers are the paper's numbers (mps, specs/Answers.antt); behind a route's and a refused edit's answer stands all
+-- that it leaves in what it was lent, behind P5's the byte that the row is about.
 use Prim.Native.Nat.{ℕ}
 use mathlib.Core.List.{List, [], _∷_, _++_}
 use lib.ListN.{set, replicate}
 use Rattle.mps.specs.Words.{byte, flag}
 use Rattle.mps.specs.Sums.{sum256}
 use Rattle.mps.specs.Ranges.{inList}
-use Rattle.mps.specs.Layout.{checksumAt}
+use Rattle.mps.specs.Layout.{checksumAt, baseBytes}
 use Rattle.mps.specs.Judge.{judged, held}
 use Rattle.mps.specs.Rules.{ioSide}
 use Rattle.mps.specs.Routes.{routed, routesLeft}
@@ -31,8 +32,8 @@ gives a b = record { got = a; wanted = b }
 abbrev room : List ℕ
 room = replicate 4 0xee
 
--- Place 3 to input 9, stating the board's bytes there, and the same at place 5.
-abbrev toInput9 : ℕ → Edit
+-- To input 9 at a place, stating the bytes of the board's place 3.
+abbrev pub toInput9 : ℕ → Edit
 toInput9 place = record { place = place; stated = interrupt; wanted = set interrupt 7 9 }
 
 -- The board with the edit made.
@@ -46,15 +47,15 @@ dumpWithChecksum sum = contents ++ (set pointer 10 sum ++ table)
 unfoldable pub cases : List Row
 cases =
     -- P1 the board's base bytes add to 0. P2 its pointer does.
-    gives (sum256 table ∷ []) (0 ∷ [])
+    gives (sum256 (baseBytes table) ∷ []) (0 ∷ [])
     ∷ gives (sum256 pointer ∷ []) (0 ∷ [])
     -- P3 route INT, bus 0, IRQ 1: (2,1). P4 IRQ 2: none.
     ∷ gives (routedNumbers (routed ioSide table 0 0 1 room) ++ routesLeft ioSide table 0 0 1 room) (0 ∷ 1 ∷ 2 ∷ 1 ∷ 0xee ∷ 0xee ∷ [])
     ∷ gives (routedNumbers (routed ioSide table 0 0 2 room) ++ routesLeft ioSide table 0 0 2 room) (0 ∷ 0 ∷ room)
     -- P5 edit place 3 to input 9: byte 7 is B8h. P6 the same edit again, still stating input 1: 22. P7 place 5: 20.
     ∷ gives (editedNumbers (edited table (toInput9 3)) ++ (byte after checksumAt ∷ [])) (0 ∷ 0xb8 ∷ [])
-    ∷ gives (editedNumbers (edited after (toInput9 3))) (22 ∷ [])
-    ∷ gives (editedNumbers (edited table (toInput9 5))) (20 ∷ [])
+    ∷ gives (editedNumbers (edited after (toInput9 3)) ++ editLeft after (toInput9 3)) (22 ∷ after)
+    ∷ gives (editedNumbers (edited table (toInput9 5)) ++ editLeft table (toInput9 5)) (20 ∷ table)
     -- P8 I/O 0FFh not ISA, 100h is. P9 3BBh VGA, 3BCh not. P10 10100h in neither.
     ∷ gives (flag (inList 0 0xff) ∷ flag (inList 0 0x100) ∷ []) (0 ∷ 1 ∷ [])
     ∷ gives (flag (inList 1 0x3bb) ∷ flag (inList 1 0x3bc) ∷ []) (1 ∷ 0 ∷ [])

@@ -17,7 +17,7 @@ use Rattle.mps.specs.Words.{bit, among, twice, any}
 use Rattle.laws.proofs.Tests.{eqb-comm, or-swap, or-four}
 use Rattle.laws.proofs.Bits.{bit-none, bit-power, bit-or}
 use Rattle.sets.specs.declared.Numbers.{Numbers}
-use Rattle.sets.specs.Sets.{word, holds, nobody, alone, withNumber}
+use Rattle.sets.specs.Sets.{word, holds, noNumbers, alone, withNumber}
 
 -- ---- alone
 
@@ -43,8 +43,8 @@ bit-alone x y = cases (eqb y x) (eqb (x / 64) (y / 64)) refl refl
 
 -- ---- word
 
-pub word-empty : (k : ℕ) → word nobody k ≡ 0
-unfolding nobody
+pub word-empty : (k : ℕ) → word noNumbers k ≡ 0
+unfolding noNumbers
 word-empty zero = refl
 word-empty (suc zero) = refl
 word-empty (suc (suc zero)) = refl
@@ -70,7 +70,7 @@ module _ (s : Numbers) (x : ℕ) where
 
 -- ---- holds
 
-pub holds-empty : (y : ℕ) → holds nobody y ≡ false
+pub holds-empty : (y : ℕ) → holds noNumbers y ≡ false
 unfolding holds
 holds-empty y = rw (word-empty (y / 64)) (bit-none (y % 64))
 
@@ -134,7 +134,7 @@ below-head x xs h = h 0 (omega arith)
 pub below-tail : (x : ℕ) (xs : List ℕ) → Below256 (x ∷ xs) → Below256 xs
 below-tail x xs h i l = h (suc i) (omega arith)
 
-pub any-empty : (xs : List ℕ) → any (holds nobody) xs ≡ false
+pub any-empty : (xs : List ℕ) → any (holds noNumbers) xs ≡ false
 unfolding any
 any-empty [] = refl
 any-empty (x ∷ xs) = rw (holds-empty x) (any-empty xs)
@@ -161,5 +161,5 @@ twice-in s (x ∷ xs) h = cases (holds s x) refl (twice-in (withNumber s x) xs (
         in-next-cons s x xs e ∙ ih ∙ rw (any-put s x xs (below-tail x xs h))
         (or-assoc (among x xs) (any (holds s) xs) (twice xs) ∙ or-swap (among x xs) (any (holds s) xs) (twice xs))
 
-pub twice-is : (xs : List ℕ) → Below256 xs → twiceIn nobody xs ≡ twice xs
-twice-is xs h = twice-in nobody xs h ∙ rw (any-empty xs)
+pub twice-is : (xs : List ℕ) → Below256 xs → twiceIn noNumbers xs ≡ twice xs
+twice-is xs h = twice-in noNumbers xs h ∙ rw (any-empty xs)

@@ -17,8 +17,8 @@ unfoldable pub holds : Numbers → ℕ → Bool
 holds s x = bit (x % 64) (word s (x / 64))
 
 -- The set that nothing is in.
-unfoldable pub nobody : Numbers
-nobody = record { words = 0 ∷ 0 ∷ 0 ∷ 0 ∷ [] }
+unfoldable pub noNumbers : Numbers
+noNumbers = record { words = 0 ∷ 0 ∷ 0 ∷ 0 ∷ [] }
 
 -- Word k of the set that only x is in.
 unfoldable pub alone : ℕ → ℕ → ℕ

@@ -1,19 +1,19 @@
-// Sets of the numbers 0 to 255, for finding duplicates and free numbers in one pass.
+// Sets of the numbers 0 to 255, for finding duplicates in one pass.
 //
-// Promised: `empty` is the set `nobody`, `put` makes `withNumber`, `contains` answers `holds`, each
+// Promised: `empty` is the set `noNumbers`, `put` makes `withNumber`, `contains` answers `holds`, each
 // of any set and any number, in a fixed number of steps. The definitions stand in specs/Sets.antt;
 // what follows from them, without a word on how a set is stored, in proofs/Laws.antt.
 ghost use mathlib.Core.Path.{_≡_};
-ghost use Rattle.sets.specs.Sets.{nobody, holds, alone, withNumber};
+ghost use Rattle.sets.specs.Sets.{noNumbers, holds, alone, withNumber};
 
 // Number x is bit x % 64 of word x / 64. An array and not four fields, so that the word of a number
 // is found by an index and not by tests. A copy is 32 bytes.
 pub struct Numbers {
-    pub words: [u64; 4],
+    words: [u64; 4],
 }
 
 pub fn empty() -> Numbers
-    ensures { λ r. ⌜ r ≡ nobody ⌝ }
+    ensures { λ r. ⌜ r ≡ noNumbers ⌝ }
 {
     Numbers {
         words: [0, 0, 0, 0],

@@ -59,15 +59,17 @@ flags-bits true false = (refl, refl)
 flags-bits false true = (refl, refl)
 flags-bits false false = (refl, refl)
 
-pub ranges-isa : (address : ℕ) → bit 0 (rangesAt (address % 1024)) ≡ isa address
+pub ranges-isa : (address : ℕ) → bit 0 (rangesAt address) ≡ isa address
 unfolding rangesAt
-ranges-isa address =
-    flags-bits (isa (address % 1024)) (vga (address % 1024)) .0 ∙ sym (isa-low address)
+ranges-isa address = flags-bits (isa address) (vga address) .0
 
-pub ranges-vga : (address : ℕ) → bit 1 (rangesAt (address % 1024)) ≡ vga address
+pub ranges-vga : (address : ℕ) → bit 1 (rangesAt address) ≡ vga address
 unfolding rangesAt
-ranges-vga address =
-    flags-bits (isa (address % 1024)) (vga (address % 1024)) .1 ∙ sym (vga-low address)
+ranges-vga address = flags-bits (isa address) (vga address) .1
+
+pub ranges-low : (address : ℕ) → rangesAt (address % 1024) ≡ rangesAt address
+unfolding rangesAt
+ranges-low address = rw (← isa-low address, ← vga-low address)
 
 -- ---- printedIsa, printedVga: what Intel prints and document 01's rule are the same
 

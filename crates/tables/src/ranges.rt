@@ -1,6 +1,5 @@
 // MPS Table 4-17, the predefined ranges of I/O addresses.
 ghost use mathlib.Core.Path.{_≡_};
-ghost use Prim.Native.Nat.{_%_};
 ghost use Rattle.mps.specs.Ranges.{rangesAt};
 
 // A place for each value of the low ten bits of an address: bit 0 says ISA, bit 1 says VGA. A line holds the sixteen
@@ -74,7 +73,7 @@ const RANGES: [u8; 1024] = *b"\
 
 // In which of the ranges an address lies.
 pub fn ranges(address: u64) -> u8
-    ensures { λ r. ⌜ r ≡ rangesAt (address % 1024) ⌝ }
+    ensures { λ r. ⌜ r ≡ rangesAt address ⌝ }
 {
     let place = (address % 1024) as usize;
     RANGES[place]

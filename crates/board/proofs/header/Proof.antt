@@ -1,4 +1,6 @@
 -- Each number is what the reader ensures of it, computed.
+use Prim.Native.Nat.{ℕ, _%_}
+use mathlib.Core.Path.{ap}
 use Rattle.mps.specs.Numbers.{le}
 use borrow.Author.Needs.{needs}
 use Rattle.board.proofs.header.Statement.{statement}
@@ -50,7 +52,7 @@ cast-shown-3 c = search needs
 
 shown-requires-3 : tie.Need-shown-requires-3
 unfolding le
-shown-requires-3 c κs = c .before .le32 .ensures
+shown-requires-3 c κs = ap (λ (n : ℕ). n % 65536) (c .before .le32 .ensures)
 
 returns : tie.Need-returns
 returns c = search needs

@@ -1,4 +1,6 @@
 -- Each answer is what `ranges` ensures of it, computed.
+use Prim.Native.Nat.{ℕ, _/_, _%_}
+use mathlib.Core.Path.{ap}
 use Rattle.mps.specs.Ranges.{rangesAt, isa, vga}
 use borrow.Author.Needs.{needs}
 use Rattle.board.proofs.ranges.Statement.{statement}
@@ -15,7 +17,7 @@ cast-shown c = search needs
 
 shown-requires : tie.Need-shown-requires
 unfolding rangesAt isa vga
-shown-requires c κs = c .ranges .ensures
+shown-requires c κs = ap (λ (n : ℕ). n % 2) (c .ranges .ensures)
 
 slice-aggregate-shown-2 : tie.Need-slice-aggregate-shown-2
 slice-aggregate-shown-2 c = search needs
@@ -28,7 +30,7 @@ cast-shown-2 c = search needs
 
 shown-requires-2 : tie.Need-shown-requires-2
 unfolding rangesAt isa vga
-shown-requires-2 c κs = c .ranges2 .ensures
+shown-requires-2 c κs = ap (λ (n : ℕ). n % 2) (c .ranges2 .ensures)
 
 slice-aggregate-shown-3 : tie.Need-slice-aggregate-shown-3
 slice-aggregate-shown-3 c = search needs
@@ -41,7 +43,7 @@ cast-shown-3 c = search needs
 
 shown-requires-3 : tie.Need-shown-requires-3
 unfolding rangesAt isa vga
-shown-requires-3 c κs = c .ranges3 .ensures
+shown-requires-3 c κs = ap (λ (n : ℕ). n / 2) (c .ranges3 .ensures)
 
 slice-aggregate-shown-4 : tie.Need-slice-aggregate-shown-4
 slice-aggregate-shown-4 c = search needs
@@ -54,7 +56,7 @@ cast-shown-4 c = search needs
 
 shown-requires-4 : tie.Need-shown-requires-4
 unfolding rangesAt isa vga
-shown-requires-4 c κs = c .ranges4 .ensures
+shown-requires-4 c κs = ap (λ (n : ℕ). n / 2) (c .ranges4 .ensures)
 
 returns : tie.Need-returns
 returns c = search needs

@@ -1,11 +1,11 @@
--- `empty` meets its contract: it makes the four words of `nobody`.
+-- `empty` meets its contract: it makes the four words of `noNumbers`.
 use mathlib.Core.Path.{refl}
-use Rattle.sets.specs.Sets.{nobody}
+use Rattle.sets.specs.Sets.{noNumbers}
 use Rattle.sets.proofs.empty.Statement.{statement}
 use Rattle.sets.proofs.empty.Tie as tie
 
 returns : tie.Need-returns
-unfolding nobody
+unfolding noNumbers
 returns c = refl
 
 pub empty-spec : {M : Type 1} → statement M

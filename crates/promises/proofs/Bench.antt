@@ -1,0 +1,50 @@
+-- The other calls on the bench board, computed: what the twelve rows and the listing do not touch. Assumes nothing.
+use mathlib.Core.Path.{_≡_, refl}
+use mathlib.Core.List.{[], _∷_, _++_}
+use lib.ListN.{replicate}
+use Rattle.mps.specs.Words.{each}
+use Rattle.mps.specs.Rules.{localSide}
+use Rattle.mps.specs.Routes.{routed, routesLeft}
+use Rattle.mps.specs.Addresses.{seen}
+use Rattle.mps.specs.Writing.{partsOf, image, written, writeLeft}
+use Rattle.mps.specs.Edits.{runAnswers}
+use Rattle.mps.specs.Reader.{nextPlace}
+use Rattle.mps.specs.Answers.{routedNumbers, seenNumbers, writtenNumbers, editedNumbers}
+use Rattle.promises.specs.Board.{table}
+use Rattle.promises.specs.Cases.{toInput9}
+use Rattle.promises.proofs.Computed.{computed}
+
+-- Writing the board's parts gives its bytes again, and leaves what lies past them.
+pub board-written : image (partsOf table) ≡ table
+unfolding computed
+board-written = refl
+
+pub board-room : writeLeft (partsOf table) (replicate 98 0xee) ≡ table ++ (0xee ∷ 0xee ∷ [])
+unfolding computed
+board-room = refl
+
+pub board-count : writtenNumbers (written (partsOf table) (replicate 98 0xee)) ≡ 0 ∷ 96 ∷ []
+unfolding computed
+board-count = refl
+
+-- The reader walks its five entries, and stays at the end.
+pub board-walked : each (nextPlace table) (44 ∷ 64 ∷ 72 ∷ 80 ∷ 88 ∷ 96 ∷ []) ≡ 64 ∷ 72 ∷ 80 ∷ 88 ∷ 96 ∷ 96 ∷ []
+unfolding computed
+board-walked = refl
+
+-- ExtINT of bus 0, IRQ 0, goes to every enabled processor, which is processor 0, at input 0.
+pub board-local :
+    routedNumbers (routed localSide table 3 0 0 (replicate 2 0xee)) ++ routesLeft localSide table 3 0 0 (replicate 2 0xee)
+    ≡ 0 ∷ 1 ∷ 0 ∷ 0 ∷ []
+unfolding computed
+board-local = refl
+
+-- It declares no address of its bus.
+pub board-undeclared : seenNumbers (seen table 0 0 0x100) ≡ 0 ∷ 2 ∷ 0 ∷ []
+unfolding computed
+board-undeclared = refl
+
+-- A run of the same edit twice: done, then refused as changed.
+pub board-run : each editedNumbers (runAnswers table (toInput9 3 ∷ toInput9 3 ∷ [])) ≡ (0 ∷ []) ∷ (22 ∷ []) ∷ []
+unfolding computed
+board-run = refl
