@@ -25,6 +25,7 @@ names e apic = eqb (destination e) everyone || eqb (destination e) (idOf apic)
 abbrev pub pairSize : ℕ
 pairSize = 2
 
+-- The pair of an interrupt entry and an APIC that it names.
 unfoldable pub pair : Entry → Entry → List ℕ
 pair e apic = idOf apic ∷ input e ∷ []
 

@@ -82,6 +82,11 @@ given-in-dump d n p f = (to, λ h. given-table d (h .0) (h .1) ∙ h .2)
     to : dumpRefusal d ≡ n → (any so (pointerRules d) ≡ false) × (isDefault d ≡ false) × (tableRefusal (tableIn d) ≡ n)
     to e = let q = no-default (isDefault d) refl e in (passed e, q, sym (given-table d (passed e) q) ∙ e)
 
+-- Accepted, a dump: no row is so.
+pub given-no-number : (d : List ℕ) → (dumpRefusal d ≡ 0) ↔ (any so (dumpRules d) ≡ false)
+unfolding dumpRefusal dumpRules pointerRules tableRules among each
+given-no-number d = refusal-none (dumpRules d) (absent-only 0 (not (isDefault d)) (tableRules (tableIn d)) refl)
+
 -- ---- A bare table: 5 to 18
 
 -- Accepted: no row is so. This is what a judge that refuses everything would have to deny.
