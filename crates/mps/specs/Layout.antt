@@ -1,7 +1,7 @@
 -- Layouts and limits: the offsets, widths, lengths and limits of the dump, the pointer, the table and its entries. The
 -- ranges of MPS Table 4-17 stand in Ranges; the writer's header lays the fields of Table 4-2 one behind the other once more.
--- Document 01, "The floating pointer" and "The table"; MPS 4.1 to 4.4. "Reserved bits and bytes decide nothing and are kept": only
--- byte 43 has a name, since the writer takes it.
+-- Document 01, "The dump", "The floating pointer" and "The table"; MPS 4.1 to 4.4. "Reserved bits and bytes decide nothing
+-- and are kept": only byte 43 has a name, since the writer takes it.
 use Prim.Native.Nat.{ℕ, _+_, _/_, _%_, _^_}
 use mathlib.Core.Bool.{Bool, cond}
 use mathlib.Core.List.{List}

@@ -1,8 +1,9 @@
 // The definitions of the whole product, and the types of its answers.
 //
 // specs/ is document 01 and Intel's MPS 1.4 in executable form, one module for each section; it is what a reader
-// must believe, and every contract of the crates above cites it. Nothing here runs and nothing needs a proof by
-// walk: laws about the definitions stand in `laws` and in the crates that use them. Read specs/ in the order of specs/Lib.antt.
+// must believe, and what the contracts of the crates above cite. Nothing here runs and nothing needs a proof by
+// walk: laws about the definitions stand in `laws` and in the crates that use them. Read specs/ in the order of
+// specs/Lib.antt.
 //
 // Each answer below is an enum; specs/Answers.antt gives the paper's number and values for each of its cases.
 pub mod layout; // the offsets, lengths and limits that the code uses

@@ -2,17 +2,47 @@
 use mathlib.Core.Path.{_≡_, refl}
 use mathlib.Core.List.{[], _∷_, _++_}
 use lib.ListN.{replicate}
-use Rattle.mps.specs.Words.{each}
+use Rattle.mps.specs.Words.{text, each}
+use Rattle.mps.specs.Judge.{judged}
+use Rattle.mps.specs.Listing.{listed, listLeft, programOutput}
 use Rattle.mps.specs.Rules.{localSide}
 use Rattle.mps.specs.Routes.{routed, routesLeft}
 use Rattle.mps.specs.Addresses.{seen}
 use Rattle.mps.specs.Writing.{partsOf, image, written, writeLeft}
 use Rattle.mps.specs.Edits.{runAnswers}
-use Rattle.mps.specs.Reader.{nextPlace}
-use Rattle.mps.specs.Answers.{routedNumbers, seenNumbers, writtenNumbers, editedNumbers}
-use Rattle.promises.specs.Board.{table}
-use Rattle.promises.specs.Cases.{toInput9}
+use Rattle.mps.specs.Reader.{found, nextPlace}
+use Rattle.mps.specs.Answers.{judgedNumbers, routedNumbers, seenNumbers, writtenNumbers, editedNumbers, foundNumbers}
+use Rattle.promises.specs.Board.{table, dump}
+use Rattle.promises.specs.Cases.{toInput9, dumpWithChecksum}
+use Rattle.promises.specs.Printed.{printed}
 use Rattle.promises.proofs.Computed.{computed}
+
+-- The judge accepts it.
+pub board-judged : judgedNumbers (judged table) ≡ 0 ∷ []
+unfolding computed
+board-judged = refl
+
+-- Its listing has 147 bytes: with two bytes more the room's end stays, with one byte less all of it does.
+pub board-listed-count : writtenNumbers (listed dump (replicate 149 0xee)) ≡ 0 ∷ 147 ∷ []
+unfolding computed
+board-listed-count = refl
+
+pub board-listed-room : listLeft dump (replicate 149 0xee) ≡ printed ++ (0xee ∷ 0xee ∷ [])
+unfolding computed printed
+board-listed-room = refl
+
+pub board-listed-short : writtenNumbers (listed dump (replicate 146 0xee)) ++ listLeft dump (replicate 146 0xee) ≡ 19 ∷ replicate 146 0xee
+unfolding computed
+board-listed-short = refl
+
+-- What the listing program writes: the listing, and for P11's dump the one line of its refusal.
+pub board-program : programOutput dump ≡ printed
+unfolding computed printed
+board-program = refl
+
+pub board-program-refused : programOutput (dumpWithChecksum 0x80) ≡ text "refused 2\n"
+unfolding computed
+board-program-refused = refl
 
 -- Writing the board's parts gives its bytes again, and leaves what lies past them.
 pub board-written : image (partsOf table) ≡ table
@@ -27,7 +57,11 @@ pub board-count : writtenNumbers (written (partsOf table) (replicate 98 0xee)) �
 unfolding computed
 board-count = refl
 
--- The reader walks its five entries, and stays at the end.
+-- The reader finds an entry of 20 bytes at 44 and none inside the header, walks the five entries, and stays at the end.
+pub board-found : each foundNumbers (each (found table) (43 ∷ 44 ∷ [])) ≡ (0 ∷ 0 ∷ []) ∷ (0 ∷ 20 ∷ []) ∷ []
+unfolding computed
+board-found = refl
+
 pub board-walked : each (nextPlace table) (44 ∷ 64 ∷ 72 ∷ 80 ∷ 88 ∷ 96 ∷ []) ≡ 64 ∷ 72 ∷ 80 ∷ 88 ∷ 96 ∷ 96 ∷ []
 unfolding computed
 board-walked = refl

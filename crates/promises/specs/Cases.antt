@@ -41,7 +41,7 @@ abbrev after : List ℕ
 after = editLeft table (toInput9 3)
 
 -- The board's dump with another pointer checksum.
-abbrev dumpWithChecksum : ℕ → List ℕ
+abbrev pub dumpWithChecksum : ℕ → List ℕ
 dumpWithChecksum sum = contents ++ (set pointer 10 sum ++ table)
 
 unfoldable pub cases : List Row
