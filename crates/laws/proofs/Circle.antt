@@ -210,11 +210,17 @@ module _ (ls : List Entry) where
       any-among (onCircle ls) (r .0) (each extendedBus ls) (linked-among (r .0) (way-linked (r .2)) .0) (round-circle (r .2))
 
   -- So does a climb of more links than there are: it comes to parents alone.
-  endless-circle : (bus : ℕ) → endless ls bus ≡ true → circle ls ≡ true
+  pub endless-circle : (bus : ℕ) → endless ls bus ≡ true → circle ls ≡ true
   unfolding endless
   endless-circle bus c =
       let ps = each parentBus ls in
       climbs-circle (bus ∷ ps) (λ z. among-rest z bus ps) bus (among-first bus bus ps refl) (rw (each-length parentBus ls) c)
+
+  -- A bus whose climb ends, however late, is on no circle.
+  pub ends-free : (k bus : ℕ) → climbs k ls bus ≡ false → onCircle ls bus ≡ false
+  unfolding onCircle
+  ends-free k bus e =
+      contrary (onCircle ls bus) (climbs k ls bus) (λ c. let w = to-way (length ls) bus bus c in round-climbs k w w) e
 
   -- There is a circle exactly where the climb from some link's bus is endless.
   pub circle-endless : circle ls ≡ any (endless ls) (each extendedBus ls)

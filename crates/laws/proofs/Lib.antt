@@ -4,5 +4,8 @@ pub mod Lists
 pub mod Pigeons
 pub mod Stores
 pub mod Cut
+pub mod Parts
+pub mod Rows
+pub mod Small
 pub mod Refusals
 pub mod Circle

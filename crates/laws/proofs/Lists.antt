@@ -1,7 +1,7 @@
 -- Laws of the words about lists. Assumes nothing.
 use Prim.Native.Nat.{ℕ, zero, suc, _+_, _≤_, _<_}
 use mathlib.Core.Path.{_≡_, refl, ap}
-use mathlib.Core.Bool.{Bool, true, false, false≢true, or-true}
+use mathlib.Core.Bool.{Bool, true, false, _&&_, false≢true, or-true}
 use mathlib.Core.List.{List, [], _∷_}
 use native.Mathlib.Omega.{arith}
 use native.Mathlib.Numerals.{add-one}
@@ -9,8 +9,8 @@ use lib.ListN.{length, getD, drop, drop-of-length-le}
 use lib.Seq.{drop-cons}
 use lib.Dec.{eqb}
 use borrow.Author.Tests.{eqb-true, eq-eqb}
-use Rattle.mps.specs.Words.{among, any, exactly}
-use Rattle.laws.proofs.Tests.{either}
+use Rattle.mps.specs.Words.{among, keep, any, exactly}
+use Rattle.laws.proofs.Tests.{whether, either}
 
 -- ---- among
 
@@ -61,6 +61,23 @@ module _ {A : Type 0} (p : A → Bool) (l : List A) (d : A) (i : ℕ) where
   pub any-next : i < length l → p (getD l i d) ≡ false → any p (drop i l) ≡ any p (drop (i + 1) l)
   unfolding any
   any-next h e = rw (add-one i, drop-cons l i d h, e)
+
+-- ---- keep
+
+module _ {A : Type 0} (q : A → Bool) (x : A) (xs : List A) where
+  pub keep-in : q x ≡ true → keep q (x ∷ xs) ≡ x ∷ keep q xs
+  unfolding keep
+  keep-in e = rw (e, keep)
+
+  pub keep-out : q x ≡ false → keep q (x ∷ xs) ≡ keep q xs
+  unfolding keep
+  keep-out e = rw (e, keep)
+
+-- To look among those that pass one test is to look for both tests.
+pub any-keep : {A : Type 0} (p q : A → Bool) (xs : List A) → any p (keep q xs) ≡ any (λ (x : A). q x && p x) xs
+unfolding keep any
+any-keep p q [] = refl
+any-keep p q (x ∷ xs) = whether (q x) (λ e. rw (e, keep, any-keep p q xs)) (λ e. rw (e, keep, any-keep p q xs))
 
 -- ---- exactly
 

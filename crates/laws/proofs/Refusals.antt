@@ -28,6 +28,10 @@ pub refusal-go : {b : Bool} (n : ℕ) (rows : List Rule) → b ≡ false → ref
 unfolding refusal
 refusal-go n rows e = rw e
 
+pub refusal-end : refusal [] ≡ 0
+unfolding refusal
+refusal-end = refl
+
 -- Two tables of rows, one behind the other, where 0 is no row's number.
 append-step : (n : ℕ) (b : Bool) (x y : ℕ) → eqb 0 n ≡ false → cond b n (first x y) ≡ first (cond b n x) y
 append-step zero true x y e = absurd (true≢false e)

@@ -8,6 +8,9 @@ use lib.Dec.{eqb}
 use Rattle.mps.specs.Refusals.{innerNumber}
 use Rattle.mps.specs.declared.Judged.{Judged}
 use Rattle.mps.specs.declared.Judged.the-variants.{Accepted, Refused as Judged·Refused}
+use Rattle.mps.specs.declared.Sections.{Sections}
+use Rattle.mps.specs.declared.Examined.{Examined}
+use Rattle.mps.specs.declared.Examined.the-variants.{Sound, Refused as Examined·Refused}
 use Rattle.mps.specs.declared.Held.{Held}
 use Rattle.mps.specs.declared.Held.the-variants.{Default, Table, Refused as Held·Refused}
 use Rattle.mps.specs.declared.Written.{Written}
@@ -26,6 +29,12 @@ use Rattle.mps.specs.declared.Found.the-variants.{Whole, Nothing}
 abbrev pub judgedNumbers : Judged → List ℕ
 judgedNumbers Accepted = 0 ∷ []
 judgedNumbers (Judged·Refused n) = n ∷ []
+
+-- The places in the order in which the sections stand.
+abbrev pub examinedNumbers : Examined → List ℕ
+examinedNumbers (Sound s) =
+    0 ∷ s .buses ∷ s .apics ∷ s .interrupts ∷ s .locals ∷ s .mappings ∷ s .links ∷ s .modifiers ∷ s .others ∷ s .end ∷ []
+examinedNumbers (Examined·Refused n) = n ∷ []
 
 -- A default has two values and a table five.
 abbrev pub heldNumbers : Held → List ℕ
@@ -64,6 +73,10 @@ foundNumbers Nothing = 0 ∷ 0 ∷ []
 abbrev pub judgedOf : ℕ → Judged
 judgedOf zero = Accepted
 judgedOf (suc n) = Judged·Refused (suc n)
+
+abbrev pub examinedOf : ℕ → Sections → Examined
+examinedOf zero places = Sound places
+examinedOf (suc n) places = Examined·Refused (suc n)
 
 abbrev pub heldOf : ℕ → Held → Held
 heldOf zero held = held

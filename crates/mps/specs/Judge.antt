@@ -5,14 +5,16 @@ use mathlib.Core.List.{List, [], _∷_, _++_}
 use Rattle.mps.specs.Words.{only, flag}
 use Rattle.mps.specs.Refusals.{Rule, _when_, refusal, baseNumber, typeNumber, cutNumber, orderNumber, extendedNumber}
 use Rattle.mps.specs.Layout.{baseEntries, extendedEntries, feature1, imcr}
-use Rattle.mps.specs.Answers.{judgedOf, heldOf}
+use Rattle.mps.specs.Answers.{judgedOf, examinedOf, heldOf}
 use Rattle.mps.specs.declared.Judged.{Judged}
+use Rattle.mps.specs.declared.Examined.{Examined}
 use Rattle.mps.specs.declared.Held.{Held}
 use Rattle.mps.specs.declared.Held.the-variants.{Default, Table}
 use Rattle.mps.specs.Dump.{soundDump}
 use Rattle.mps.specs.Pointer.{noPointer, wrongPointerRevision, wrongFeature, isDefault, pointer, pointerBytes, tableAddress, tableStart, tableEnd, tableIn}
 use Rattle.mps.specs.Table.{headerCut, wrongSignature, wrongBaseLength, wrongBaseSum, wrongRevision, wrongType, cutOrMiscounted, descendingType, wrongExtended}
 use Rattle.mps.specs.Rules.{wrongProcessors, wrongBuses, wrongIoApics, wrongInterrupts, wrongSpaces}
+use Rattle.mps.specs.Sections.{sections}
 
 -- 5 to 18, with 7 and 10 to 13 by their names: "A bare table in a lent buffer is judged as one region holding the buffer".
 unfoldable pub tableRules : List ℕ → List Rule
@@ -59,6 +61,10 @@ dumpRefusal d = refusal (dumpRules d)
 -- The judge's answer of a bare table.
 unfoldable pub judged : List ℕ → Judged
 judged t = judgedOf (tableRefusal t)
+
+-- The same, and of an accepted table where its entries stand.
+unfoldable pub examined : List ℕ → Examined
+examined t = examinedOf (tableRefusal t) (sections t)
 
 -- What the pointer of an accepted dump has told: "default configuration n", or a table.
 unfoldable pub told : List ℕ → Held

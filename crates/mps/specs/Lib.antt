@@ -10,6 +10,7 @@ pub mod Dump
 pub mod Pointer
 pub mod Table
 pub mod Rules
+pub mod Sections
 pub mod Judge
 pub mod Routes
 pub mod Addresses

@@ -7,8 +7,84 @@ pub const POINTER_TABLE: usize = 4;
 
 // ---- The header, MPS Table 4-2
 
+pub const HEADER_SIZE: usize = 44;
+
 pub const BASE_LENGTH: usize = 4;
+
+pub const REVISION: usize = 6;
 
 pub const CHECKSUM: usize = 7;
 
 pub const ENTRY_COUNT: usize = 34;
+
+pub const LOCAL_APIC: usize = 36;
+
+pub const EXTENDED_LENGTH: usize = 40;
+
+pub const EXTENDED_CHECKSUM: usize = 42;
+
+pub const SPEC_REVISION: u8 = 4;
+
+pub const PART_MOST: usize = 4096;
+
+pub const LOCAL_APIC_STEP: u32 = 4096;
+
+// ---- Processors, buses and I/O APICs, MPS Tables 4-4, 4-7 and 4-9
+
+pub const PROCESSOR_SIZE: usize = 20;
+
+// Every other base entry.
+pub const ENTRY_SIZE: usize = 8;
+
+pub const ENTRY_ID: usize = 1;
+
+pub const APIC_FLAGS: usize = 3;
+
+pub const BUS_NAME: usize = 2;
+
+pub const IO_APIC_ADDRESS: usize = 4;
+
+pub const IO_APIC_STEP: u32 = 1024;
+
+// ---- Interrupt entries, I/O and local, MPS Tables 4-10 and 4-12
+
+pub const INTERRUPT_TYPE: usize = 1;
+
+pub const INTERRUPT_FLAGS: usize = 2;
+
+pub const SOURCE_BUS: usize = 4;
+
+pub const DESTINATION: usize = 6;
+
+pub const INPUT: usize = 7;
+
+pub const INTERRUPT_TYPE_MOST: u8 = 3;
+
+pub const RESERVED_MODE: u8 = 2;
+
+pub const EVERYONE: u8 = 255;
+
+pub const LOCAL_INPUT_MOST: u8 = 1;
+
+// ---- Extended entries, MPS Tables 4-13 to 4-16
+
+pub const MAPPING_SIZE: usize = 20;
+
+// A link or a modifier.
+pub const LINK_SIZE: usize = 8;
+
+pub const EXTENDED_BUS: usize = 2;
+
+pub const SPACE_KIND: usize = 3;
+
+pub const SPACE_BASE: usize = 4;
+
+pub const SPACE_LENGTH: usize = 12;
+
+pub const PARENT_BUS: usize = 4;
+
+pub const RANGE_LIST: usize = 4;
+
+pub const SPACE_KIND_MOST: u8 = 2;
+
+pub const RANGE_LIST_MOST: u32 = 1;

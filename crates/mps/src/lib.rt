@@ -14,6 +14,27 @@ pub enum Judged {
     Refused(u8),
 }
 
+// Where the entries of each type begin in an accepted table, from its first byte; each section ends where the next
+// begins. Processors begin behind the header, the extended entries (mappings) where the base ends; `others` are the
+// extended types that are skipped by their length.
+pub struct Sections {
+    pub buses: usize,
+    pub apics: usize,
+    pub interrupts: usize,
+    pub locals: usize,
+    pub mappings: usize,
+    pub links: usize,
+    pub modifiers: usize,
+    pub others: usize,
+    pub end: usize,
+}
+
+// What the judge tells those who go on with a table: where its entries stand, or the number of the refusal.
+pub enum Examined {
+    Sound(Sections),
+    Refused(u8),
+}
+
 // What a dump holds: refused with 1 to 18, a default configuration, or a table. The table's bytes are those of
 // the dump from `start` to `end`, the end of the region that holds it.
 pub enum Held {

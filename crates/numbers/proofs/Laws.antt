@@ -48,6 +48,10 @@ unfolding le
 le-take zero n s at h = refl
 le-take (suc k) n s at h = rw (getD-take n s at 0 (omega arith), le-take k n s (at + 1) (omega arith))
 
+-- In the n bytes from a place on.
+pub le-row : (k n : ℕ) (s : List ℕ) (a at : ℕ) → at + k ≤ n → le k (take n (drop a s)) at ≡ le k s (a + at)
+le-row k n s a at h = le-take k n (drop a s) at h ∙ le-drop k a s at
+
 -- In the second of two lists.
 pub le-append : (k : ℕ) (a b : List ℕ) (at : ℕ) → le k (a ++ b) (length a + at) ≡ le k b at
 le-append k a b at = rw (← le-drop k (length a) (a ++ b) at, drop-append-seam)

@@ -12,7 +12,8 @@ use Rattle.mps.specs.Dump.{regionsFrom, regions, kindRule, soundRegion, share, 
 use Rattle.mps.specs.Pointer.{addressed, candidates, good, searched, pointers, pointer, isDefault, noPointer, wrongPointerRevision, wrongFeature, tableStart, tableEnd, tableIn}
 use Rattle.mps.specs.Table.{headerCut, wrongSignature, wrongBaseLength, wrongBaseSum, wrongRevision, entryFault, walkFrom, walkFault, wrongType, cutOrMiscounted, descendingType, extendedFault, extendedFrom, wrongExtended}
 use Rattle.mps.specs.Rules.{enabledOf, idsOf, enabledIds, bootstraps, wrongProcessors, unknownName, wrongBuses, misplaced, wrongIoApics, isListed, wrongInterrupt, wrongInput, wrongOnSide, wrongInterrupts, wrongMapping, wrongHierarchy, wrongModifier, links, parentsOf, climbsTo, onCircle, circle, wrongSpaces}
-use Rattle.mps.specs.Judge.{tableRules, tableRefusal, pointerRules, dumpRules, dumpRefusal, judged, told, held}
+use Rattle.mps.specs.Sections.{rows, span, baseAfter, extendedAfter, sections}
+use Rattle.mps.specs.Judge.{tableRules, tableRefusal, pointerRules, dumpRules, dumpRefusal, judged, examined, told, held}
 use Rattle.mps.specs.Routes.{matches, names, pair, pairsTo, routes, routesOf, routeRules, routeRefusal, routed, routesLeft}
 use Rattle.mps.specs.Addresses.{covers, touches, takesAway, adds, coversOrAdds, hasEntry, subtractive, says, climb, seenBy, addressRules, seen}
 use Rattle.mps.specs.Listing.{digits, decimalDigit, hexDigit, decimalWidth, decimal, hex, line, unpadded, onOff, bootAp, interruptName, cpuLine, busLine, ioApicLine, interruptLine, baseLine, mapLine, treeLine, modLine, skipLine, extendedLine, defaultLine, pointerLine, tableLine, endLine, tableLines, listing, refusedLine, programOutput, listRefusal, listed, listLeft}
@@ -64,8 +65,12 @@ ofRules : ℕ
 unfolding enabledOf idsOf enabledIds bootstraps wrongProcessors unknownName wrongBuses misplaced wrongIoApics isListed wrongInterrupt wrongInput wrongOnSide wrongInterrupts wrongMapping wrongHierarchy wrongModifier links parentsOf climbsTo onCircle circle wrongSpaces
 ofRules = 0
 
+ofSections : ℕ
+unfolding rows span baseAfter extendedAfter sections
+ofSections = 0
+
 ofJudge : ℕ
-unfolding tableRules tableRefusal pointerRules dumpRules dumpRefusal judged told held
+unfolding tableRules tableRefusal pointerRules dumpRules dumpRefusal judged examined told held
 ofJudge = 0
 
 ofRoutes : ℕ
@@ -93,5 +98,5 @@ unfolding baseStep extendedStep entrySize entryAt nextPlace found
 ofReader = 0
 
 unfoldable pub computed : ℕ
-unfolding ofWords ofRefusals ofSums ofNumbers ofLayout ofBuses ofRanges ofDump ofPointer ofTable ofRules ofJudge ofRoutes ofAddresses ofListing ofWriting ofEdits ofReader
+unfolding ofWords ofRefusals ofSums ofNumbers ofLayout ofBuses ofRanges ofDump ofPointer ofTable ofRules ofSections ofJudge ofRoutes ofAddresses ofListing ofWriting ofEdits ofReader
 computed = 0

@@ -20,6 +20,13 @@ use Rattle.sums.proofs.sum.Reads as sum
 use Rattle.sums.proofs.to_store.Reads as to-store
 use Rattle.tables.proofs.names.is_bus_name.Reads as is-bus-name
 use Rattle.tables.proofs.ranges.ranges.Reads as ranges
+use Rattle.header.proofs.refusal.Reads as header-refusal
+use Rattle.header.proofs.wrong_extended.Reads as wrong-extended
+use Rattle.apics.proofs.claim.Reads as claim
+use Rattle.apics.proofs.wrong_boot.Reads as wrong-boot
+use Rattle.apics.proofs.misplaced.Reads as misplaced
+use Rattle.buses.proofs.list.Reads as list-buses
+use Rattle.parents.proofs.wrong.Reads as wrong-parents
 
 -- A contract whose parameters are only read: at any arguments it allows one result.
 abbrev pub Answers : {K : Type 0} {A R S : K → Type 0} → ((κ : K) → A κ → R κ → S κ → Type 0) → Type 0
@@ -92,3 +99,32 @@ is-bus-name-determined κ a x y s t p q = p ∙ sym q
 
 pub ranges-determined : Answers ranges.Post
 ranges-determined κ a x y s t p q = p ∙ sym q
+
+-- ---- header
+
+pub header-refusal-determined : Answers header-refusal.Post
+header-refusal-determined κ a x y s t p q = p ∙ sym q
+
+pub wrong-extended-determined : Answers wrong-extended.Post
+wrong-extended-determined κ a x y s t p q = p ∙ sym q
+
+-- ---- apics
+
+pub claim-determined : Answers claim.Post
+claim-determined κ a x y s t p q = p ∙ sym q
+
+pub wrong-boot-determined : Answers wrong-boot.Post
+wrong-boot-determined κ a x y s t p q = p ∙ sym q
+
+pub misplaced-determined : Answers misplaced.Post
+misplaced-determined κ a x y s t p q = p ∙ sym q
+
+-- ---- buses
+
+pub list-buses-determined : Answers list-buses.Post
+list-buses-determined κ a x y s t p q = p ∙ sym q
+
+-- ---- parents
+
+pub wrong-parents-determined : Answers wrong-parents.Post
+wrong-parents-determined κ a x y s t p q = p ∙ sym q

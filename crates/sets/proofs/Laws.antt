@@ -2,7 +2,7 @@
 -- nothing of how a set is stored; the laws before them lead there. Assumes nothing.
 use Prim.Native.Nat.{ℕ, zero, suc, _+_, _*_, _/_, _%_, _^_, _≤_, _<_}
 use mathlib.Core.Path.{_≡_, refl, sym, _∙_}
-use mathlib.Core.Bool.{Bool, true, false, cond, _||_, or-assoc, or-comm}
+use mathlib.Core.Bool.{Bool, true, false, cond, _||_, or-false, or-assoc, or-comm}
 use mathlib.Core.List.{List, [], _∷_}
 use native.Mathlib.Omega.{arith}
 use native.Mathlib.Numerals.{add-one}
@@ -94,6 +94,10 @@ holds-all s [] y h = refl
 holds-all s (x ∷ xs) y h =
     holds-all (withNumber s x) xs y h ∙ rw (holds-put s x y h)
     (or-swap (among y xs) (eqb y x) (holds s y) ∙ sym (or-assoc (eqb y x) (among y xs) (holds s y)))
+
+-- The set of a list's numbers holds what is among them.
+pub holds-list : (xs : List ℕ) (y : ℕ) → y < 256 → holds (putAll noNumbers xs) y ≡ among y xs
+holds-list xs y h = holds-all noNumbers xs y h ∙ rw (holds-empty y) (or-false (among y xs))
 
 -- ---- twiceIn: whether a number of a list is in a set or was met before, in one pass
 

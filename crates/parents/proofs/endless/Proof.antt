@@ -1,0 +1,105 @@
+-- `endless` meets its contract. The loop's invariant: the rows that are left have an endless climb exactly where all rows
+-- have one in the array at the start.
+use Prim.Native.Nat.{_+_, _-_, _≤_}
+use mathlib.Core.Path.{_≡_, refl, sym, _∙_}
+use native.Mathlib.Omega.{arith}
+use lib.ListN.{length, getD, drop}
+use borrow.Author.Needs.{needs}
+use Rattle.mps.specs.Sections.{rows}
+use Rattle.parents.specs.Parents.{Array, endlessIn}
+use Rattle.parents.proofs.Laws.{array-cleared, endless-done, endless-stop, endless-next}
+use Rattle.parents.proofs.endless.Statement.{statement}
+use Rattle.parents.proofs.endless.Tie as tie
+
+abbrev Inv-loop : tie.InvT-loop
+Inv-loop up₀ s links at₀ up at =
+    (endlessIn links up (rows 8 (drop at s)) ≡ endlessIn links up₀ (rows 8 s)) × (at ≤ length s) × Array up
+
+abbrev μ-loop : tie.MeasureT-loop
+μ-loop up₀ s links at₀ up at = length s - at
+
+loop-holds : tie.Need-loop-holds Inv-loop μ-loop
+loop-holds c = (refl, omega arith, c .before .before .pre)
+
+sub-loop : tie.Need-sub-loop Inv-loop μ-loop
+sub-loop c = search needs
+
+add-goes-on : tie.Need-add-goes-on Inv-loop μ-loop
+add-goes-on c = search needs
+
+shared-slice-read-goes-on : tie.Need-shared-slice-read-goes-on Inv-loop μ-loop
+shared-slice-read-goes-on c = search needs
+
+goes-on-requires : tie.Need-goes-on-requires Inv-loop μ-loop
+goes-on-requires c κs = search needs
+
+same-length : tie.Need-same-length Inv-loop μ-loop
+same-length c = search needs
+
+returns : tie.Need-returns Inv-loop μ-loop
+returns c =
+    let l = c .before .before .before .before .before .loop in
+    let a = c .before .before .before .before .before .before .before .before .args in
+    let on = sym (c .before .goes-on .ensures) ∙ c .if1 .taken in
+    let b = getD (a .s .now) (l .at + 2) 0 in
+    sym (endless-stop (l .up) (a .s .now) (l .at) (omega arith) (omega arith) b refl (a .links) on) ∙ l .inv .0
+
+add-clear : tie.Need-add-clear Inv-loop μ-loop
+add-clear c = search needs
+
+shared-slice-read-clear : tie.Need-shared-slice-read-clear Inv-loop μ-loop
+shared-slice-read-clear c = search needs
+
+clear-requires : tie.Need-clear-requires Inv-loop μ-loop
+clear-requires c κs = search needs
+
+add-at : tie.Need-add-at Inv-loop μ-loop
+add-at c = search needs
+
+loop-less : tie.Need-loop-less Inv-loop μ-loop
+loop-less c = search needs
+
+loop-again : tie.Need-loop-again Inv-loop μ-loop
+loop-again c =
+    let l = c .before .before .before .before .before .before .before .before .before .before .loop in
+    let a = c .before .before .before .before .before .before .before .before .before .before .before .before .before .args in
+    let b = getD (a .s .now) (l .at + 2) 0 in
+    let small = c .before .before .before .before .before .before .before .shared-slice-known2 .given (l .at + 2) in
+    let ends = sym (c .before .before .before .before .before .before .goes-on .ensures) ∙ c .before .before .before .before .before .if1 .left in
+    let next = endless-next (l .up) (a .s .now) (l .at) (omega arith) (omega arith) b refl (a .links) ends in
+    let e = c .before .before .clear .ensures in (
+      rw e (sym next ∙ l .inv .0),
+      omega arith,
+      rw e (array-cleared (a .links) (l .up) b (l .inv .2) (omega (arith, small))),
+    )
+
+same-length-2 : tie.Need-same-length-2 Inv-loop μ-loop
+same-length-2 c = search needs
+
+returns-2 : tie.Need-returns-2 Inv-loop μ-loop
+returns-2 c =
+    let l = c .before .loop in
+    let a = c .before .before .before .before .args in
+    sym (endless-done (l .up) (a .s .now) (l .at) (omega arith) (omega arith) (a .links)) ∙ l .inv .0
+
+pub endless-spec : {M : Type 1} → statement M
+endless-spec =
+    tie.close
+    (tie.spec
+    Inv-loop
+    μ-loop
+    loop-holds
+    sub-loop
+    add-goes-on
+    shared-slice-read-goes-on
+    goes-on-requires
+    same-length
+    returns
+    add-clear
+    shared-slice-read-clear
+    clear-requires
+    add-at
+    loop-less
+    loop-again
+    same-length-2
+    returns-2)

@@ -1,0 +1,101 @@
+// Parents of buses: whether type 129 entries give a bus two of them, or lead in a circle.
+//
+// Promised: `wrong` answers `wrongParents` of specs/Parents.antt, of any bytes. It takes time linear in
+// them: a link whose climb has ended is taken away, and the first climb that does not end is the last.
+// The entries stand one behind the other, 8 bytes each; bytes behind the last whole one are passed over.
+use mps::layout;
+ghost use mathlib.Core.Path.{_≡_};
+ghost use mathlib.Core.Bool.{false};
+ghost use Prim.Native.Nat.{_<_};
+ghost use Rattle.mps.specs.Sections.{rows};
+ghost use Rattle.parents.specs.Parents.{wrongParents, Array, filled, clash, goesOn, cleared, endlessIn};
+
+// The bound is said because a caller sees a number, and not that it came from a byte.
+fn wide(x: u8) -> u16
+    ensures { λ r. ⌜ (r ≡ x) × (r < 256) ⌝ }
+{
+    x as u16
+}
+
+// Stores each link at its bus, as its parent plus 1; true at the first bus that has one already.
+fn fill(up: &mut [u16], s: &[u8]) -> bool
+    requires { ⌜ Array (now up) ⌝ }
+    ensures { λ r. ⌜ r ≡ clash (now (up .entry)) (rows 8 (now (s .entry))) ⌝ }
+    ensures { λ r. ⌜ (r ≡ false → now (up .exit) ≡ filled (now (up .entry)) (rows 8 (now (s .entry)))) ⌝ }
+    ensures { λ _. ⌜ Array (now (up .exit)) ⌝ }
+{
+    let mut at = 0;
+    while layout::LINK_SIZE <= s.len() - at {
+        let bus = wide(s[at + layout::EXTENDED_BUS]) as usize;
+        if up[bus] != 0 {
+            return true;
+        }
+        up[bus] = wide(s[at + layout::PARENT_BUS]) + 1;
+        at += layout::LINK_SIZE;
+    }
+    false
+}
+
+// Whether so many links can be climbed from a bus.
+fn goes_on(up: &[u16], bus: u8, links: usize) -> bool
+    requires { ⌜ Array (now up) ⌝ }
+    ensures { λ r. ⌜ r ≡ goesOn links (now (up .entry)) bus ⌝ }
+{
+    let mut place = wide(bus) as usize;
+    let mut left = links;
+    while 0 < left {
+        let link = up[place];
+        if link == 0 {
+            return false;
+        }
+        place = (link - 1) as usize;
+        left -= 1;
+    }
+    true
+}
+
+// Takes away the links that are climbed from a bus, so many at most. For a climb that is known to end:
+// without them no later climb goes over them again.
+fn clear(up: &mut [u16], bus: u8, links: usize)
+    requires { ⌜ Array (now up) ⌝ }
+    ensures { λ _. ⌜ now (up .exit) ≡ cleared links (now (up .entry)) bus ⌝ }
+{
+    let mut place = wide(bus) as usize;
+    let mut left = links;
+    while 0 < left {
+        let link = up[place];
+        if link == 0 {
+            return;
+        }
+        up[place] = 0;
+        place = (link - 1) as usize;
+        left -= 1;
+    }
+}
+
+// Whether so many links can be climbed from the bus of some entry.
+fn endless(up: &mut [u16], s: &[u8], links: usize) -> bool
+    requires { ⌜ Array (now up) ⌝ }
+    ensures { λ r. ⌜ r ≡ endlessIn links (now (up .entry)) (rows 8 (now (s .entry))) ⌝ }
+{
+    let mut at = 0;
+    while layout::LINK_SIZE <= s.len() - at {
+        if goes_on(up, s[at + layout::EXTENDED_BUS], links) {
+            return true;
+        }
+        clear(up, s[at + layout::EXTENDED_BUS], links);
+        at += layout::LINK_SIZE;
+    }
+    false
+}
+
+pub fn wrong(s: &[u8]) -> bool
+    ensures { λ r. ⌜ r ≡ wrongParents (rows 8 (now (s .entry))) ⌝ }
+{
+    let mut up: [u16; 256] = [0; 256];
+    if fill(&mut up, s) {
+        return true;
+    }
+    // One link more than there are: a climb of so many has come to some bus twice.
+    endless(&mut up, s, s.len() / layout::LINK_SIZE + 1)
+}
