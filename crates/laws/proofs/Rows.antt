@@ -1,6 +1,6 @@
 -- Laws of `rows`, the whole pieces of n bytes, for a loop over a slice. Assumes nothing.
 use Prim.Native.Nat.{ℕ, zero, suc, pred, _+_, _-_, _/_, _≤_, _<_}
-use mathlib.Core.Path.{_≡_, refl, _∙_}
+use mathlib.Core.Path.{_≡_, refl, sym, _∙_}
 use mathlib.Core.Bool.{Bool, true, false}
 use mathlib.Core.List.{List, [], _∷_}
 use native.Mathlib.Omega.{arith}
@@ -59,6 +59,21 @@ module _ (p : Entry → Bool) (n : ℕ) (s : List ℕ) (at : ℕ) where
   pub seek-next : 0 < n → at ≤ length s → n ≤ length s - at → p (take n (drop at s)) ≡ false → any p (rows n (drop at s)) ≡ any p (rows n (drop (at + n) s))
   unfolding any
   seek-next z h f e = rw (rows-next n s at z h f, e)
+
+-- What such a loop keeps: the rows left answer as all of them do. r is what it found of the row there.
+abbrev pub Seeks : (Entry → Bool) → ℕ → List ℕ → ℕ → Type 0
+Seeks p n s at = (any p (rows n (drop at s)) ≡ any p (rows n s)) × (at ≤ length s)
+
+module _ (p : Entry → Bool) (n : ℕ) (s : List ℕ) (at : ℕ) (inv : Seeks p n s at) where
+  pub seeks-done : length s - at < n → false ≡ any p (rows n s)
+  seeks-done f = sym (seek-done p n s at (inv .1) f) ∙ inv .0
+
+  module _ (z : 0 < n) (f : n ≤ length s - at) {r : Bool} (e : r ≡ p (take n (drop at s))) where
+    pub seeks-stop : r ≡ true → true ≡ any p (rows n s)
+    seeks-stop t = sym (seek-stop p n s at z (inv .1) f (sym e ∙ t)) ∙ inv .0
+
+    pub seeks-next : r ≡ false → Seeks p n s (at + n)
+    seeks-next t = (sym (seek-next p n s at z (inv .1) f (sym e ∙ t)) ∙ inv .0, omega (arith, f, inv .1))
 
 -- What is so of no rows, and of one row and those behind it where it is so of those, is so of all rows from a place on. P
 -- is told the place too; k is any number of bytes that the rest does not pass.

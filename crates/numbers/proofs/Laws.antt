@@ -1,6 +1,6 @@
 -- Laws of little-endian numbers, for any width. Assumes nothing.
 use Prim.Native.Nat.{ℕ, zero, suc, _+_, _-_, _*_, _/_, _%_, _^_, _<_, _≤_}
-use mathlib.Core.Path.{_≡_, refl, ap, _∙_}
+use mathlib.Core.Path.{_≡_, refl, ap, sym, _∙_}
 use mathlib.Core.List.{List, [], _∷_, _++_, append-assoc, append-nil}
 use native.Mathlib.Omega.{arith}
 use native.Mathlib.Numerals.{add-one}
@@ -60,6 +60,17 @@ pub le-past : (k : ℕ) (s : List ℕ) (at : ℕ) → length s ≤ at → le k s
 unfolding le
 le-past zero s at h = refl
 le-past (suc k) s at h = rw (List·getD-eq-default s 0 h, le-past k s (at + 1) (omega arith))
+
+-- The bytes that are there are all of a number that reaches past the end.
+pub le-rest : (n k : ℕ) (s : List ℕ) (at : ℕ) → n ≡ length s - at → n ≤ k → le n s at ≡ le k s at
+le-rest n k s at e h =
+    let w : n + (k - n) ≡ k = omega arith in
+    let p = le-past (k - n) s (at + n) (omega arith) in
+    sym (rw (w, p) at (le-split n (k - n) s at) ∙ omega arith)
+
+-- A number of n bytes fits where k bytes do.
+pub fits-within : (n k r : ℕ) → n ≤ k → r < 256 ^ n → r < 256 ^ k
+fits-within n k r h b = lt-of-lt-of-le b (pow-le-pow-right (omega arith) h)
 
 pub le-below : (k : ℕ) (s : List ℕ) (at : ℕ) → ((i : ℕ) → getD s i 0 < 256) → le k s at < 256 ^ k
 unfolding le

@@ -2,7 +2,7 @@
 // The numbers are `le` and `bytes` of crates/mps/specs/Numbers.antt, at every place of every slice: a byte past the
 // end reads as 0, and a store past the end does nothing. proofs/Laws.antt has the laws over any width.
 ghost use mathlib.Core.Path.{_≡_};
-ghost use Prim.Native.Nat.{_-_, _^_, _≤_, _<_};
+ghost use Prim.Native.Nat.{_+_, _-_, _^_, _≤_, _<_};
 ghost use lib.ListN.{length, getD};
 ghost use lib.Seq.{sets};
 ghost use Rattle.mps.specs.Numbers.{le, bytes};
@@ -27,49 +27,64 @@ fn left(s: &[u8], at: usize) -> usize
     if at < s.len() { s.len() - at } else { 0 }
 }
 
-// Any width at any place: the way for the few numbers that reach past the end. From the highest byte down, so that no
-// power of 256 is held; `at` may be any number, so nothing is added to it before it is known to lie inside.
-fn le_any(s: &[u8], at: usize, k: usize) -> u64
-    requires { ⌜ k ≤ 8 ⌝ }
-    ensures { λ r. ⌜ (r ≡ le k (now (s .entry)) at) × (r < 256 ^ k) ⌝ }
+// The n bytes that stand from a place on: the way for the few numbers that reach past the end. From the highest byte
+// down, so that no power of 256 is held.
+fn le_rest(s: &[u8], at: usize, n: usize) -> u64
+    requires { ⌜ (n ≤ 8) × (n ≤ length (now s) - at) ⌝ }
+    ensures { λ r. ⌜ (r ≡ le n (now (s .entry)) at) × (r < 256 ^ n) ⌝ }
 {
-    if s.len() <= at {
-        return 0;
-    }
     let mut r: u64 = 0;
-    let mut i = k;
+    let mut i = n;
     while 0 < i {
         i -= 1;
-        r = r * 256 + wide(byte(s, at + i));
+        r = r * 256 + wide(s[at + i]);
     }
     r
+}
+
+// Bytes that are all there: no test stands between them, so that they are read by one load.
+fn two(s: &[u8], at: usize) -> u64
+    requires { ⌜ at + 2 ≤ length (now s) ⌝ }
+    ensures { λ r. ⌜ (r ≡ le 2 (now (s .entry)) at) × (r < 65536) ⌝ }
+{
+    wide(s[at]) + wide(s[at + 1]) * 256
+}
+
+fn four(s: &[u8], at: usize) -> u64
+    requires { ⌜ at + 4 ≤ length (now s) ⌝ }
+    ensures { λ r. ⌜ (r ≡ le 4 (now (s .entry)) at) × (r < 4294967296) ⌝ }
+{
+    two(s, at) + two(s, at + 2) * 65536
 }
 
 pub fn le16(s: &[u8], at: usize) -> u16
     ensures { λ r. ⌜ r ≡ le 2 (now (s .entry)) at ⌝ }
 {
-    if 2 <= left(s, at) {
-        return (wide(s[at]) + wide(s[at + 1]) * 256) as u16;
+    let n = left(s, at);
+    if n < 2 {
+        return le_rest(s, at, n) as u16;
     }
-    le_any(s, at, 2) as u16
+    two(s, at) as u16
 }
 
 pub fn le32(s: &[u8], at: usize) -> u32
     ensures { λ r. ⌜ r ≡ le 4 (now (s .entry)) at ⌝ }
 {
-    if 2 <= left(s, at) {
-        return le16(s, at) as u32 + le16(s, at + 2) as u32 * 65536;
+    let n = left(s, at);
+    if n < 4 {
+        return le_rest(s, at, n) as u32;
     }
-    le_any(s, at, 4) as u32
+    four(s, at) as u32
 }
 
 pub fn le64(s: &[u8], at: usize) -> u64
     ensures { λ r. ⌜ r ≡ le 8 (now (s .entry)) at ⌝ }
 {
-    if 4 <= left(s, at) {
-        return le32(s, at) as u64 + le32(s, at + 4) as u64 * 4294967296;
+    let n = left(s, at);
+    if n < 8 {
+        return le_rest(s, at, n);
     }
-    le_any(s, at, 8)
+    four(s, at) + four(s, at + 4) * 4294967296
 }
 
 // Any width at any place.

@@ -27,6 +27,10 @@ use Rattle.apics.proofs.wrong_boot.Reads as wrong-boot
 use Rattle.apics.proofs.misplaced.Reads as misplaced
 use Rattle.buses.proofs.list.Reads as list-buses
 use Rattle.parents.proofs.wrong.Reads as wrong-parents
+use Rattle.interrupts.proofs.wrong.Reads as wrong-interrupts
+use Rattle.spaces.proofs.wrong_mappings.Reads as wrong-mappings
+use Rattle.spaces.proofs.wrong_links.Reads as wrong-links
+use Rattle.spaces.proofs.wrong_modifiers.Reads as wrong-modifiers
 
 -- A contract whose parameters are only read: at any arguments it allows one result.
 abbrev pub Answers : {K : Type 0} {A R S : K → Type 0} → ((κ : K) → A κ → R κ → S κ → Type 0) → Type 0
@@ -128,3 +132,19 @@ list-buses-determined κ a x y s t p q = p ∙ sym q
 
 pub wrong-parents-determined : Answers wrong-parents.Post
 wrong-parents-determined κ a x y s t p q = p ∙ sym q
+
+-- ---- interrupts
+
+pub wrong-interrupts-determined : Answers wrong-interrupts.Post
+wrong-interrupts-determined κ a x y s t p q = p ∙ sym q
+
+-- ---- spaces
+
+pub wrong-mappings-determined : Answers wrong-mappings.Post
+wrong-mappings-determined κ a x y s t p q = p ∙ sym q
+
+pub wrong-links-determined : Answers wrong-links.Post
+wrong-links-determined κ a x y s t p q = p ∙ sym q
+
+pub wrong-modifiers-determined : Answers wrong-modifiers.Post
+wrong-modifiers-determined κ a x y s t p q = p ∙ sym q

@@ -1,44 +1,28 @@
--- Inside the slice `le-two`; else it is `le_any`.
+-- Inside the slice `two`; else what is there, `le-rest`.
+use mathlib.Core.Path.{_∙_}
 use native.Mathlib.Omega.{arith}
-use Rattle.numbers.proofs.Laws.{le-two}
 use borrow.Author.Needs.{needs}
+use Rattle.numbers.proofs.Laws.{le-rest, fits-within}
 use Rattle.numbers.proofs.le16.Statement.{statement}
 use Rattle.numbers.proofs.le16.Tie as tie
 
 left-requires : tie.Need-left-requires
 left-requires c κs = search needs
 
-shared-slice-read-wide : tie.Need-shared-slice-read-wide
-shared-slice-read-wide c = search needs
-
-wide-requires : tie.Need-wide-requires
-wide-requires c κs = search needs
-
-add-wide : tie.Need-add-wide
-add-wide c = search needs
-
-shared-slice-read-wide-2 : tie.Need-shared-slice-read-wide-2
-shared-slice-read-wide-2 c = search needs
-
-wide-requires-2 : tie.Need-wide-requires-2
-wide-requires-2 c κs = search needs
-
-mul-result : tie.Need-mul-result
-mul-result c = search needs
-
-add-result : tie.Need-add-result
-add-result c = search needs
+le-rest-requires : tie.Need-le-rest-requires
+le-rest-requires c κs = search needs
 
 cast-result : tie.Need-cast-result
-cast-result c = search needs
+cast-result c =
+    omega (arith, fits-within (c .before .before .left .result) 2 (c .le-rest .result) (omega arith) (c .le-rest .ensures .1))
 
 returns : tie.Need-returns
 returns c =
-    let a = c .before .before .before .before .before .before .before .args in
-    omega (arith, le-two (a .s .now) (a .at))
+    let a = c .before .before .before .before .args in
+    c .le-rest .ensures .0 ∙ le-rest (c .before .before .left .result) 2 (a .s .now) (a .at) (c .before .before .left .ensures) (omega arith)
 
-le-any-requires : tie.Need-le-any-requires
-le-any-requires c κs = search needs
+two-requires : tie.Need-two-requires
+two-requires c κs = search needs
 
 cast-result-2 : tie.Need-cast-result-2
 cast-result-2 c = search needs
@@ -51,15 +35,9 @@ le16-spec =
     tie.close
     (tie.spec
     left-requires
-    shared-slice-read-wide
-    wide-requires
-    add-wide
-    shared-slice-read-wide-2
-    wide-requires-2
-    mul-result
-    add-result
+    le-rest-requires
     cast-result
     returns
-    le-any-requires
+    two-requires
     cast-result-2
     returns-2)

@@ -1,44 +1,31 @@
--- Two numbers of two bytes, `le-four`; else it is `le_any`.
+-- Inside the slice `four`; else what is there, `le-rest`.
+use mathlib.Core.Path.{_∙_}
 use native.Mathlib.Omega.{arith}
-use Rattle.numbers.proofs.Laws.{le-four}
 use borrow.Author.Needs.{needs}
+use Rattle.numbers.proofs.Laws.{le-rest, fits-within}
 use Rattle.numbers.proofs.le32.Statement.{statement}
 use Rattle.numbers.proofs.le32.Tie as tie
 
 left-requires : tie.Need-left-requires
 left-requires c κs = search needs
 
-le16-requires : tie.Need-le16-requires
-le16-requires c κs = search needs
+le-rest-requires : tie.Need-le-rest-requires
+le-rest-requires c κs = search needs
 
 cast-result : tie.Need-cast-result
-cast-result c = search needs
-
-add-le16 : tie.Need-add-le16
-add-le16 c = search needs
-
-le16-requires-2 : tie.Need-le16-requires-2
-le16-requires-2 c κs = search needs
-
-cast-result-2 : tie.Need-cast-result-2
-cast-result-2 c = search needs
-
-mul-result : tie.Need-mul-result
-mul-result c = search needs
-
-add-result : tie.Need-add-result
-add-result c = search needs
+cast-result c =
+    omega (arith, fits-within (c .before .before .left .result) 4 (c .le-rest .result) (omega arith) (c .le-rest .ensures .1))
 
 returns : tie.Need-returns
 returns c =
-    let a = c .before .before .before .before .before .args in
-    omega (arith, le-four (a .s .now) (a .at))
+    let a = c .before .before .before .before .args in
+    c .le-rest .ensures .0 ∙ le-rest (c .before .before .left .result) 4 (a .s .now) (a .at) (c .before .before .left .ensures) (omega arith)
 
-le-any-requires : tie.Need-le-any-requires
-le-any-requires c κs = search needs
+four-requires : tie.Need-four-requires
+four-requires c κs = search needs
 
-cast-result-3 : tie.Need-cast-result-3
-cast-result-3 c = search needs
+cast-result-2 : tie.Need-cast-result-2
+cast-result-2 c = search needs
 
 returns-2 : tie.Need-returns-2
 returns-2 c = search needs
@@ -48,14 +35,9 @@ le32-spec =
     tie.close
     (tie.spec
     left-requires
-    le16-requires
+    le-rest-requires
     cast-result
-    add-le16
-    le16-requires-2
-    cast-result-2
-    mul-result
-    add-result
     returns
-    le-any-requires
-    cast-result-3
+    four-requires
+    cast-result-2
     returns-2)

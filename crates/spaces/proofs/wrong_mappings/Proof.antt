@@ -1,0 +1,59 @@
+-- The loop looks for a wrong entry: `Seeks`, with `seeks-stop`, `seeks-next` and `seeks-done`.
+use Prim.Native.Nat.{_-_}
+use mathlib.Core.Path.{refl}
+use native.Mathlib.Omega.{arith}
+use lib.ListN.{length}
+use borrow.Author.Needs.{needs}
+use Rattle.laws.proofs.Rows.{Seeks, seeks-done, seeks-stop, seeks-next}
+use Rattle.spaces.specs.Spaces.{wrongMap}
+use Rattle.spaces.proofs.wrong_mappings.Statement.{statement}
+use Rattle.spaces.proofs.wrong_mappings.Tie as tie
+
+abbrev Inv-loop : tie.InvT-loop
+Inv-loop s buses at₀ at = Seeks (wrongMap buses) 20 s at
+
+abbrev μ-loop : tie.MeasureT-loop
+μ-loop s buses at₀ at = length s - at
+
+loop-holds : tie.Need-loop-holds Inv-loop μ-loop
+loop-holds c = (refl, omega arith)
+
+sub-loop : tie.Need-sub-loop Inv-loop μ-loop
+sub-loop c = search needs
+
+wrong-mapping-requires : tie.Need-wrong-mapping-requires Inv-loop μ-loop
+wrong-mapping-requires c κs = search needs
+
+returns : tie.Need-returns Inv-loop μ-loop
+returns c =
+    let l = c .before .before .before .loop in
+    seeks-stop _ 20 _ (l .at) (l .inv) (omega arith) (omega arith) (c .before .wrong-mapping .ensures) (c .if1 .taken)
+
+add-at : tie.Need-add-at Inv-loop μ-loop
+add-at c = search needs
+
+loop-less : tie.Need-loop-less Inv-loop μ-loop
+loop-less c = search needs
+
+loop-again : tie.Need-loop-again Inv-loop μ-loop
+loop-again c =
+    let l = c .before .before .before .loop in
+    seeks-next _ 20 _ (l .at) (l .inv) (omega arith) (omega arith) (c .before .wrong-mapping .ensures) (c .if1 .left)
+
+returns-2 : tie.Need-returns-2 Inv-loop μ-loop
+returns-2 c = seeks-done _ 20 _ (c .before .loop .at) (c .before .loop .inv) (omega arith)
+
+pub wrong-mappings-spec : {M : Type 1} → statement M
+wrong-mappings-spec =
+    tie.close
+    (tie.spec
+    Inv-loop
+    μ-loop
+    loop-holds
+    sub-loop
+    wrong-mapping-requires
+    returns
+    add-at
+    loop-less
+    loop-again
+    returns-2)
