@@ -1,19 +1,20 @@
 -- Laws of the header's rows, one for each way out of the code. Assumes nothing.
 use Prim.Native.Nat.{ℕ, _+_, _-_, _%_, _≤_, _<_}
 use mathlib.Core.Path.{_≡_, sym, ap, _∙_}
-use mathlib.Core.Bool.{true, false, not, or-true}
+use mathlib.Core.Bool.{true, false, not, _||_, or-true}
 use mathlib.Core.List.{List, [], _∷_}
 use native.Mathlib.Omega.{arith}
 use lib.ListN.{length, getD, take, drop}
 use lib.Seq.{length-take-le}
-use lib.Dec.{eqb}
-use borrow.Author.Tests.{eq-eqb, ne-eqb, lt-ltb, le-ltb}
+use lib.Dec.{ltb, eqb}
+use borrow.Author.Tests.{eq-eqb, ne-eqb, lt-ltb, le-ltb, ltb-false}
 use Rattle.mps.specs.Words.{same}
 use Rattle.mps.specs.Sums.{total, sum256}
 use Rattle.mps.specs.Layout.{headerSize, partMost, baseLength, specRevision, knownRevision, extendedLength, extendedChecksum, extendedEnd, extendedPart}
 use Rattle.mps.specs.Refusals.{refusal, baseNumber}
 use Rattle.mps.specs.Table.{headerCut, wrongSignature, wrongBaseLength, wrongBaseSum, wrongRevision}
-use Rattle.laws.proofs.Refusals.{refusal-stop, refusal-go, refusal-end}
+use Rattle.laws.proofs.Tests.{or-parts}
+use Rattle.laws.proofs.Refusals.{refusal-stop, refusal-go, refusal-pass, refusal-end}
 use Rattle.header.specs.Header.{baseRules, headerRules, headerRefusal, wrongExtendedPart}
 
 -- "PCMP", as the code has it.
@@ -99,3 +100,31 @@ module _ (t : List ℕ) where
   is-summed {x} e f g p q h k =
       let r : x ≡ total (extendedChecksum t ∷ extendedPart t) % 256 = rw (← p, ← q) (omega (arith, e, f, g)) in
       rw (le-ltb _ _ h, le-ltb _ _ k, r)
+
+-- ---- What a caller may use of a header that passes
+
+pub record Header (t : List ℕ) : Type 0 where
+  pub whole : headerSize ≤ length t
+  pub low : headerSize ≤ baseLength t
+  pub inside : baseLength t ≤ length t
+
+module _ (t : List ℕ) where
+  pub header-passed : headerRefusal t ≡ 0 → Header t
+  unfolding headerRefusal headerRules baseRules headerCut wrongBaseLength
+  header-passed e =
+      let five = refusal-pass 5 (headerCut t) _ (omega arith) e in
+      let six = refusal-pass 6 (wrongSignature t) _ (omega arith) (five .1) in
+      let seven = refusal-pass 7 (wrongBaseLength t) _ (omega arith) (six .1) in
+      let past = or-parts (ltb (baseLength t) headerSize || ltb partMost (baseLength t)) (ltb (length t) (baseLength t)) (seven .0) in
+      let short = or-parts (ltb (baseLength t) headerSize) (ltb partMost (baseLength t)) (past .0) in
+      record {
+        whole = ltb-false _ _ (five .0);
+        low = ltb-false _ _ (short .0);
+        inside = ltb-false _ _ (past .1);
+      }
+
+  pub extended-fits : wrongExtendedPart t ≡ false → extendedEnd t ≤ length t
+  unfolding wrongExtendedPart
+  extended-fits e =
+      let a = or-parts (ltb partMost (extendedLength t) || ltb (length t) (extendedEnd t)) _ e in
+      ltb-false _ _ (or-parts (ltb partMost (extendedLength t)) (ltb (length t) (extendedEnd t)) (a .0) .1)

@@ -28,6 +28,12 @@ pub refusal-go : {b : Bool} (n : ℕ) (rows : List Rule) → b ≡ false → ref
 unfolding refusal
 refusal-go n rows e = rw e
 
+-- Where no number is given, the first row is not so.
+pub refusal-pass : (n : ℕ) (b : Bool) (rows : List Rule) → 0 < n → refusal (n when b ∷ rows) ≡ 0 → (b ≡ false) × (refusal rows ≡ 0)
+unfolding refusal
+refusal-pass n true rows p e = absurd (omega arith)
+refusal-pass n false rows p e = (refl, e)
+
 pub refusal-end : refusal [] ≡ 0
 unfolding refusal
 refusal-end = refl

@@ -29,6 +29,19 @@ pub const PART_MOST: usize = 4096;
 
 pub const LOCAL_APIC_STEP: u32 = 4096;
 
+// ---- Base entries, MPS Table 4-3
+
+pub const PROCESSOR_TYPE: u8 = 0;
+
+pub const BUS_TYPE: u8 = 1;
+
+pub const IO_APIC_TYPE: u8 = 2;
+
+pub const IO_INTERRUPT_TYPE: u8 = 3;
+
+// The last of the base types.
+pub const LOCAL_INTERRUPT_TYPE: u8 = 4;
+
 // ---- Processors, buses and I/O APICs, MPS Tables 4-4, 4-7 and 4-9
 
 pub const PROCESSOR_SIZE: usize = 20;
@@ -67,6 +80,19 @@ pub const EVERYONE: u8 = 255;
 pub const LOCAL_INPUT_MOST: u8 = 1;
 
 // ---- Extended entries, MPS Tables 4-13 to 4-16
+
+pub const MAPPING_TYPE: u8 = 128;
+
+pub const HIERARCHY_TYPE: u8 = 129;
+
+pub const MODIFIER_TYPE: u8 = 130;
+
+// The first type that is skipped by its length.
+pub const OTHER_TYPES: u8 = 131;
+
+pub const ENTRY_LENGTH: usize = 1;
+
+pub const LEAST_LENGTH: usize = 2;
 
 pub const MAPPING_SIZE: usize = 20;
 

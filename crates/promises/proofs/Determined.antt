@@ -31,6 +31,11 @@ use Rattle.interrupts.proofs.wrong.Reads as wrong-interrupts
 use Rattle.spaces.proofs.wrong_mappings.Reads as wrong-mappings
 use Rattle.spaces.proofs.wrong_links.Reads as wrong-links
 use Rattle.spaces.proofs.wrong_modifiers.Reads as wrong-modifiers
+use Rattle.sections.proofs.base.Reads as base-sections
+use Rattle.sections.proofs.extended.Reads as extended-sections
+use Rattle.judge.proofs.judge.Reads as judge
+use Rattle.judge.proofs.examine.Reads as examine
+use Rattle.exports.proofs.ruxtajma_judge.Reads as ruxtajma-judge
 
 -- A contract whose parameters are only read: at any arguments it allows one result.
 abbrev pub Answers : {K : Type 0} {A R S : K → Type 0} → ((κ : K) → A κ → R κ → S κ → Type 0) → Type 0
@@ -148,3 +153,24 @@ wrong-links-determined κ a x y s t p q = p ∙ sym q
 
 pub wrong-modifiers-determined : Answers wrong-modifiers.Post
 wrong-modifiers-determined κ a x y s t p q = p ∙ sym q
+
+-- ---- sections
+
+pub base-sections-determined : Answers base-sections.Post
+base-sections-determined κ a x y s t p q = p ∙ sym q
+
+pub extended-sections-determined : Answers extended-sections.Post
+extended-sections-determined κ a x y s t p q = p ∙ sym q
+
+-- ---- judge
+
+pub judge-determined : Answers judge.Post
+judge-determined κ a x y s t p q = p ∙ sym q
+
+pub examine-determined : Answers examine.Post
+examine-determined κ a x y s t p q = p ∙ sym q
+
+-- ---- exports
+
+pub ruxtajma-judge-determined : Answers ruxtajma-judge.Post
+ruxtajma-judge-determined κ a x y s t p q = p ∙ sym q

@@ -1,0 +1,5 @@
+pub mod Stages
+pub mod Rules
+pub mod Ways
+pub mod Accepted
+pub mod Verdict

@@ -1,0 +1,74 @@
+-- The number of a table, stage by stage. Assumes nothing.
+use Prim.Native.Nat.{ℕ}
+use mathlib.Core.Path.{_≡_, refl, ap, _∙_}
+use mathlib.Core.Bool.{Bool, true, false, cond, not, _||_, _&&_}
+use mathlib.Core.List.{List, [], _∷_, _++_}
+use lib.ListN.{length}
+use lib.Dec.{eqb, ltb}
+use Rattle.mps.specs.Words.{first, among, each}
+use Rattle.mps.specs.Refusals.{_when_, refusal, extendedNumber}
+use Rattle.mps.specs.Layout.{Entry, entryCount, baseEntries, extendedEntries, baseEntryLength}
+use Rattle.mps.specs.Table.{entryFault, walkFrom, walkFault, wrongType, cutOrMiscounted, descendingType, wrongExtended, extendedFrom}
+use Rattle.mps.specs.Judge.{tableRules, tableRefusal}
+use Rattle.laws.proofs.Tests.{whether}
+use Rattle.laws.proofs.Refusals.{refusal-append}
+use Rattle.header.specs.Header.{baseRules, headerRules, headerRefusal, wrongExtendedPart}
+use Rattle.judge.specs.Stages.{walkRules, walkNumber, from14, from15, from16, from17, from18}
+
+-- ---- The walk has one fault, and each of its rows asks whether it is its own
+
+-- A fault of the walk is none, 10, 11 or 12.
+pub data Fault : ℕ → Type 0 where
+  none : Fault 0
+  type : Fault 10
+  cut : Fault 11
+  order : Fault 12
+
+fault-choose : (a b c : Bool) → Fault (cond a 10 (cond b 11 (cond c 12 0)))
+fault-choose true b c = type
+fault-choose false true c = cut
+fault-choose false false true = order
+fault-choose false false false = none
+
+fault-first : {a b : ℕ} → Fault a → Fault b → Fault (first a b)
+fault-first none g = g
+fault-first type g = type
+fault-first cut g = cut
+fault-first order g = order
+
+pub walk-fault : (before : ℕ) (es : List Entry) → Fault (walkFrom before es)
+unfolding walkFrom entryFault
+walk-fault before [] = none
+walk-fault before (e ∷ es) =
+    fault-first
+    (fault-choose (ltb 4 (Rattle.mps.specs.Layout.type e)) (ltb (length e) (baseEntryLength e)) (ltb (Rattle.mps.specs.Layout.type e) before))
+    (walk-fault (Rattle.mps.specs.Layout.type e) es)
+
+-- The rows of a fault w, where the count is right or not.
+walk-rows : {w : ℕ} (right : Bool) → Fault w
+    → refusal (10 when eqb w 10 ∷ 11 when (eqb w 11 || eqb w 0 && not right) ∷ 12 when eqb w 12 ∷ []) ≡ first w (cond right 0 11)
+unfolding refusal
+walk-rows true none = refl
+walk-rows false none = refl
+walk-rows right type = refl
+walk-rows right cut = refl
+walk-rows right order = refl
+
+module _ (t : List ℕ) where
+  walk-number : refusal (walkRules t) ≡ walkNumber t
+  unfolding walkNumber walkRules wrongType cutOrMiscounted descendingType walkFault
+  walk-number = walk-rows (eqb (length (baseEntries t)) (entryCount t)) (walk-fault 0 (baseEntries t))
+
+  -- ---- The stages
+
+  pub stages : tableRefusal t ≡ first (headerRefusal t) (first (walkNumber t) (cond (wrongExtended t) extendedNumber (refusal (from14 t))))
+  unfolding tableRefusal tableRules headerRefusal headerRules baseRules walkRules from14 from15 from16 from17 from18 refusal among each
+  stages =
+      let behind = extendedNumber when wrongExtended t ∷ from14 t in
+      refusal-append (headerRules t) (walkRules t ++ behind) refl
+      ∙ ap (first (headerRefusal t)) (refusal-append (walkRules t) behind refl ∙ ap (λ (n : ℕ). first n (refusal behind)) walk-number)
+
+  -- 13 is the header's part of it, or a faulty entry.
+  pub extended-stages : wrongExtended t ≡ (wrongExtendedPart t || extendedFrom 0 (extendedEntries t))
+  unfolding wrongExtended wrongExtendedPart
+  extended-stages = refl

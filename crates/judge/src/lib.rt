@@ -1,0 +1,209 @@
+// The judge: whether a bare table is accepted, and the number that it is refused with, 5 to 18.
+//
+// Promised of any bytes: `judge` answers `judged`, and `examine` answers `examined`, the same and, of an accepted table,
+// where the entries of each type stand. The definitions stand in mps's specs/Judge.antt, the rows in specs/Table.antt and
+// specs/Rules.antt there. What a caller may use of the places, `Placed`, stands in specs/Placed.antt; that those of an
+// accepted table are so, in proofs/Accepted.antt.
+//
+// The tests are made in the order of the numbers, each over the bytes that it speaks of and no others: the header, the
+// walks, then the entries of one type after the other, with the sets of IDs that the rules before have met. No byte is
+// looked at more than a fixed number of times.
+use mps::Examined;
+use mps::Judged;
+use mps::Sections;
+use mps::layout;
+use sections::BaseSections;
+use sections::ExtendedSections;
+use sets::Numbers;
+ghost use mathlib.Core.Path.{_≡_};
+ghost use Rattle.mps.specs.Layout.{processorType, busType, ioApicType};
+ghost use Rattle.mps.specs.Refusals.{refusal};
+ghost use Rattle.mps.specs.Judge.{judged, examined};
+ghost use Rattle.judge.specs.Placed.{Placed};
+ghost use Rattle.judge.specs.Stages.{from14, from15, from16, from17, from18, idSet, takenSet, Walked, Ready};
+
+pub fn judge(t: &[u8]) -> Judged
+    ensures { λ r. ⌜ r ≡ judged (now (t .entry)) ⌝ }
+{
+    let found = examine(t);
+    match found {
+        Examined::Sound(p) => Judged::Accepted,
+        Examined::Refused(n) => Judged::Refused(n),
+    }
+}
+
+pub fn examine(t: &[u8]) -> Examined
+    ensures { λ r. ⌜ r ≡ examined (now (t .entry)) ⌝ }
+{
+    let number = header::refusal(t);
+    if number != 0 {
+        return Examined::Refused(number);
+    }
+    let base = numbers::le16(t, layout::BASE_LENGTH) as usize;
+    let count = numbers::le16(t, layout::ENTRY_COUNT) as usize;
+    let walked = sections::base(&t[layout::HEADER_SIZE..base], count);
+    match walked {
+        BaseSections::Faulty(n) => Examined::Refused(n),
+        BaseSections::Ascending {
+            buses,
+            apics,
+            interrupts,
+            locals,
+        } => behind_base(
+            t,
+            Sections {
+                buses: layout::HEADER_SIZE + buses,
+                apics: layout::HEADER_SIZE + apics,
+                interrupts: layout::HEADER_SIZE + interrupts,
+                locals: layout::HEADER_SIZE + locals,
+                mappings: base,
+                links: base,
+                modifiers: base,
+                others: base,
+                end: base,
+            },
+        ),
+    }
+}
+
+// 13 and on, with the places of the base.
+fn behind_base(t: &[u8], p: Sections) -> Examined
+    requires { ⌜ Walked (now t) p ⌝ }
+    ensures { λ r. ⌜ r ≡ examined (now (t .entry)) ⌝ }
+{
+    if header::wrong_extended(t) {
+        return Examined::Refused(13);
+    }
+    let base = p.mappings;
+    let size = numbers::le16(t, layout::EXTENDED_LENGTH) as usize;
+    let walked = sections::extended(&t[base..base + size]);
+    match walked {
+        ExtendedSections::Faulty => Examined::Refused(13),
+        ExtendedSections::Ascending {
+            links,
+            modifiers,
+            others,
+        } => behind_walks(
+            t,
+            Sections {
+                buses: p.buses,
+                apics: p.apics,
+                interrupts: p.interrupts,
+                locals: p.locals,
+                mappings: base,
+                links: base + links,
+                modifiers: base + modifiers,
+                others: base + others,
+                end: base + size,
+            },
+        ),
+    }
+}
+
+// 14 and on, with all places.
+fn behind_walks(t: &[u8], p: Sections) -> Examined
+    requires { ⌜ Ready (now t) p ⌝ }
+    ensures { λ r. ⌜ r ≡ examined (now (t .entry)) ⌝ }
+{
+    let number = from_14(t, p);
+    if number != 0 {
+        return Examined::Refused(number);
+    }
+    Examined::Sound(p)
+}
+
+// 18: what the extended entries say, with the listed buses.
+fn from_18(t: &[u8], p: Sections, buses: Numbers) -> u8
+    requires { ⌜ Placed (now t) p ⌝ }
+    requires { ⌜ buses ≡ idSet busType (now t) ⌝ }
+    ensures { λ r. ⌜ r ≡ refusal (from18 (now (t .entry))) ⌝ }
+{
+    let start = p.mappings;
+    let links = p.links;
+    let modifiers = p.modifiers;
+    let others = p.others;
+    if spaces::wrong_mappings(&t[start..links], buses) {
+        return 18;
+    }
+    if spaces::wrong_links(&t[links..modifiers], buses) {
+        return 18;
+    }
+    if spaces::wrong_modifiers(&t[modifiers..others], buses) {
+        return 18;
+    }
+    if parents::wrong(&t[links..modifiers]) {
+        return 18;
+    }
+    0
+}
+
+// 17: what the interrupt entries of both sides say, with the listed buses, I/O APICs and processors.
+fn from_17(t: &[u8], p: Sections, buses: Numbers, apics: Numbers, cpus: Numbers) -> u8
+    requires { ⌜ Placed (now t) p ⌝ }
+    requires { ⌜ (buses ≡ idSet busType (now t)) × (apics ≡ idSet ioApicType (now t)) × (cpus ≡ idSet processorType (now t)) ⌝ }
+    ensures { λ r. ⌜ r ≡ refusal (from17 (now (t .entry))) ⌝ }
+{
+    let start = p.interrupts;
+    let locals = p.locals;
+    let end = p.mappings;
+    if interrupts::wrong(&t[start..locals], buses, apics, 255) {
+        return 17;
+    }
+    if interrupts::wrong(&t[locals..end], buses, cpus, layout::LOCAL_INPUT_MOST) {
+        return 17;
+    }
+    from_18(t, p, buses)
+}
+
+// 16: the I/O APICs. `taken` are the IDs of enabled processors, and 255.
+fn from_16(t: &[u8], p: Sections, buses: Numbers, cpus: Numbers, taken: Numbers) -> u8
+    requires { ⌜ Placed (now t) p ⌝ }
+    requires { ⌜ (buses ≡ idSet busType (now t)) × (cpus ≡ idSet processorType (now t)) × (taken ≡ takenSet (now t)) ⌝ }
+    ensures { λ r. ⌜ r ≡ refusal (from16 (now (t .entry))) ⌝ }
+{
+    let start = p.apics;
+    let end = p.interrupts;
+    let ios = apics::claim(&t[start..end], layout::ENTRY_SIZE, taken);
+    if ios.twice {
+        return 16;
+    }
+    if apics::misplaced(&t[start..end]) {
+        return 16;
+    }
+    from_17(t, p, buses, ios.all, cpus)
+}
+
+// 15: the buses.
+fn from_15(t: &[u8], p: Sections, cpus: Numbers, taken: Numbers) -> u8
+    requires { ⌜ Placed (now t) p ⌝ }
+    requires { ⌜ (cpus ≡ idSet processorType (now t)) × (taken ≡ takenSet (now t)) ⌝ }
+    ensures { λ r. ⌜ r ≡ refusal (from15 (now (t .entry))) ⌝ }
+{
+    let start = p.buses;
+    let end = p.apics;
+    let listed = buses::list(&t[start..end]);
+    if listed.wrong {
+        return 15;
+    }
+    from_16(t, p, listed.ids, cpus, taken)
+}
+
+// 14: the processors, and the local APIC address of the header. 255 is taken from the start: no enabled APIC may have it.
+fn from_14(t: &[u8], p: Sections) -> u8
+    requires { ⌜ Placed (now t) p ⌝ }
+    ensures { λ r. ⌜ r ≡ refusal (from14 (now (t .entry))) ⌝ }
+{
+    let end = p.buses;
+    if numbers::le32(t, layout::LOCAL_APIC) % layout::LOCAL_APIC_STEP != 0 {
+        return 14;
+    }
+    if apics::wrong_boot(&t[layout::HEADER_SIZE..end]) {
+        return 14;
+    }
+    let own = sets::put(sets::empty(), layout::EVERYONE);
+    let cpus = apics::claim(&t[layout::HEADER_SIZE..end], layout::PROCESSOR_SIZE, own);
+    if cpus.twice {
+        return 14;
+    }
+    from_15(t, p, cpus.all, cpus.taken)
+}

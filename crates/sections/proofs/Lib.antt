@@ -1,0 +1,6 @@
+pub mod Pieces
+pub mod Runs
+pub mod Walks
+pub mod BaseEntries
+pub mod ExtendedEntries
+pub mod Laws

@@ -1,0 +1,64 @@
+-- `base` meets its contract, by a law for each of its three answers, from what the five runs ensure.
+use native.Mathlib.Omega.{arith}
+use Rattle.sections.proofs.BaseEntries.{Placed, placed, base-faulty, base-miscounted, base-sound}
+use borrow.Author.Needs.{needs}
+use Rattle.sections.proofs.base.Statement.{statement}
+use Rattle.sections.proofs.base.Tie as tie
+
+-- What the five runs ensure, in one.
+places :
+    (c : tie.After-run5)
+    → Placed (c .before .before .before .before .before .before .args .s .now) (c .before .before .before .before .run .result) (c .before .before .before .run2 .result)
+    (c .before .before .run3 .result) (c .before .run4 .result) (c .run5 .result)
+places c =
+    placed _ _ _ _ _ _ (c .before .before .before .before .run .ensures) (c .before .before .before .run2 .ensures) (c .before .before .run3 .ensures)
+    (c .before .run4 .ensures) (c .run5 .ensures)
+
+run-requires : tie.Need-run-requires
+run-requires c κs = search needs
+
+run-requires-2 : tie.Need-run-requires-2
+run-requires-2 c κs = search needs
+
+run-requires-3 : tie.Need-run-requires-3
+run-requires-3 c κs = search needs
+
+run-requires-4 : tie.Need-run-requires-4
+run-requires-4 c κs = search needs
+
+run-requires-5 : tie.Need-run-requires-5
+run-requires-5 c κs = search needs
+
+fault-requires : tie.Need-fault-requires
+fault-requires c κs = search needs
+
+returns : tie.Need-returns
+returns c = base-faulty _ _ _ _ _ _ _ (places (c .before .before)) _ (c .before .if1 .taken) (c .fault .ensures)
+
+sub-if2 : tie.Need-sub-if2
+sub-if2 c = search needs
+
+add-if2 : tie.Need-add-if2
+add-if2 c = search needs
+
+returns-2 : tie.Need-returns-2
+returns-2 c = base-miscounted _ _ _ _ _ _ _ (places (c .before .before)) (omega arith) (c .if2 .taken)
+
+returns-3 : tie.Need-returns-3
+returns-3 c = base-sound _ _ _ _ _ _ _ (places (c .before .before)) (omega arith) (c .if2 .left)
+
+pub base-spec : {M : Type 1} → statement M
+base-spec =
+    tie.close
+    (tie.spec
+    run-requires
+    run-requires-2
+    run-requires-3
+    run-requires-4
+    run-requires-5
+    fault-requires
+    returns
+    sub-if2
+    add-if2
+    returns-2
+    returns-3)

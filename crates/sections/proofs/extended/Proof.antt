@@ -1,0 +1,40 @@
+-- `extended` meets its contract, by a law for each of its two answers, from what the three runs and `others` ensure.
+use Rattle.sections.proofs.ExtendedEntries.{extended-faulty, extended-sound}
+use borrow.Author.Needs.{needs}
+use Rattle.sections.proofs.extended.Statement.{statement}
+use Rattle.sections.proofs.extended.Tie as tie
+
+run-of-requires : tie.Need-run-of-requires
+run-of-requires c κs = search needs
+
+run-of-requires-2 : tie.Need-run-of-requires-2
+run-of-requires-2 c κs = search needs
+
+run-of-requires-3 : tie.Need-run-of-requires-3
+run-of-requires-3 c κs = search needs
+
+others-requires : tie.Need-others-requires
+others-requires c κs = search needs
+
+returns : tie.Need-returns
+returns c =
+    extended-faulty _ _ _ _
+    (c .before .before .before .before .run-of .ensures) (c .before .before .before .run-of2 .ensures) (c .before .before .run-of3 .ensures)
+    _ (c .before .others .ensures) (c .if1 .taken)
+
+returns-2 : tie.Need-returns-2
+returns-2 c =
+    extended-sound _ _ _ _
+    (c .before .before .before .before .run-of .ensures) (c .before .before .before .run-of2 .ensures) (c .before .before .run-of3 .ensures)
+    _ (c .before .others .ensures) (c .if1 .left)
+
+pub extended-spec : {M : Type 1} → statement M
+extended-spec =
+    tie.close
+    (tie.spec
+    run-of-requires
+    run-of-requires-2
+    run-of-requires-3
+    others-requires
+    returns
+    returns-2)
