@@ -1,7 +1,6 @@
 // The calls for C: the proved library under plain names, to be linked from target/staticlib/libexports.a.
 //
 // A slice is a pointer and a length. Each answer is in the paper's numbers: 0 for accepted, else the refusal's.
-use mps::Judged;
 ghost use mathlib.Core.Path.{_≡_};
 ghost use Rattle.mps.specs.Judge.{tableRefusal};
 
@@ -10,9 +9,5 @@ ghost use Rattle.mps.specs.Judge.{tableRefusal};
 pub extern "C" fn ruxtajma_judge(t: &[u8]) -> u8
     ensures { λ r. ⌜ r ≡ tableRefusal (now (t .entry)) ⌝ }
 {
-    let answer = judge::judge(t);
-    match answer {
-        Judged::Accepted => 0,
-        Judged::Refused(n) => n,
-    }
+    judge::refusal(t)
 }

@@ -3,3 +3,4 @@ pub mod Rules
 pub mod Ways
 pub mod Accepted
 pub mod Verdict
+pub mod Laws

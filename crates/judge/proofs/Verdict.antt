@@ -11,12 +11,8 @@ use Rattle.mps.specs.Refusals.{refusal, extendedNumber}
 use Rattle.mps.specs.Layout.{Entry, headerSize, processorType, mappingType, baseLength, extendedLength, entryCount, baseEntries, extendedEntries}
 use Rattle.mps.specs.Table.{walkFrom, walkFault, extendedFrom, wrongExtended}
 use Rattle.mps.specs.Sections.{span, baseAfter, extendedAfter, sections}
-use Rattle.mps.specs.Judge.{tableRefusal, judged, examined}
-use Rattle.mps.specs.Answers.{judgedOf, examinedOf}
+use Rattle.mps.specs.Judge.{tableRefusal, examined}
 use Rattle.mps.specs.declared.Sections.{Sections}
-use Rattle.mps.specs.declared.Judged.{Judged}
-use Rattle.mps.specs.declared.Judged.the-variants.{Accepted, Refused as Judged·Refused}
-use Rattle.mps.specs.declared.Examined.{Examined}
 use Rattle.mps.specs.declared.Examined.the-variants.{Sound, Refused}
 use Rattle.laws.proofs.Small.{Bytes}
 use Rattle.header.specs.Header.{headerRefusal, wrongExtendedPart}
@@ -90,17 +86,6 @@ straight :
 unfolding isCrooked extendedPlace
 straight true a b c e = absurd (true≢false (sym (ap isCrooked e)))
 straight false a b c e = (refl, ap (extendedPlace 0) e, ap (extendedPlace 1) e, ap (extendedPlace 2) e)
-
--- ---- The judge's answer from the examiner's
-
-judgedFrom : Examined → Judged
-judgedFrom (Sound p) = Accepted
-judgedFrom (Refused n) = Judged·Refused n
-
-judged-from : (n : ℕ) (q : Sections) → judgedFrom (examinedOf n q) ≡ judgedOf n
-unfolding judgedFrom
-judged-from zero q = refl
-judged-from (suc n) q = refl
 
 -- ---- The two answers
 
@@ -238,18 +223,3 @@ module _ (t : List ℕ) where
 
     pub rules-passed : n ≡ 0 → Sound p ≡ examined t
     rules-passed z = sound-by t (g .number ∙ sym e ∙ z) (g .places)
-
-  -- ---- The judge's answer from the examiner's
-
-  module _ {r : Examined} (e : r ≡ examined t) where
-    judged-is : judgedFrom r ≡ judged t
-    unfolding judged examined
-    judged-is = ap judgedFrom e ∙ judged-from (tableRefusal t) (sections t)
-
-    pub judged-sound : {p : Sections} → r ≡ Sound p → Accepted ≡ judged t
-    unfolding judgedFrom
-    judged-sound q = ap judgedFrom (sym q) ∙ judged-is
-
-    pub judged-refused : {n : ℕ} → r ≡ Refused n → Judged·Refused n ≡ judged t
-    unfolding judgedFrom
-    judged-refused q = ap judgedFrom (sym q) ∙ judged-is

@@ -1,9 +1,9 @@
 // The judge: whether a bare table is accepted, and the number that it is refused with, 5 to 18.
 //
-// Promised of any bytes: `judge` answers `judged`, and `examine` answers `examined`, the same and, of an accepted table,
-// where the entries of each type stand. The definitions stand in mps's specs/Judge.antt, the rows in specs/Table.antt and
-// specs/Rules.antt there. What a caller may use of the places, `Placed`, stands in specs/Placed.antt; that those of an
-// accepted table are so, in proofs/Accepted.antt.
+// Promised of any bytes: `judge` answers `judged`, `refusal` the number alone, and `examine` answers `examined`: the same
+// and, of an accepted table, where the entries of each type stand. The definitions stand in mps's specs/Judge.antt, the
+// rows in specs/Table.antt and specs/Rules.antt there. What a caller may use of the places is `Placed`, specs/Placed.antt,
+// and that those of an accepted table are so is a law of proofs/Laws.antt.
 //
 // The tests are made in the order of the numbers, each over the bytes that it speaks of and no others: the header, the
 // walks, then the entries of one type after the other, with the sets of IDs that the rules before have met. No byte is
@@ -17,18 +17,29 @@ use sections::ExtendedSections;
 use sets::Numbers;
 ghost use mathlib.Core.Path.{_≡_};
 ghost use Rattle.mps.specs.Layout.{processorType, busType, ioApicType};
-ghost use Rattle.mps.specs.Refusals.{refusal};
-ghost use Rattle.mps.specs.Judge.{judged, examined};
+ghost use Rattle.mps.specs.Refusals.{refusal as refusalOf};
+ghost use Rattle.mps.specs.Judge.{tableRefusal, judged, examined};
 ghost use Rattle.judge.specs.Placed.{Placed};
 ghost use Rattle.judge.specs.Stages.{from14, from15, from16, from17, from18, idSet, takenSet, Walked, Ready};
 
 pub fn judge(t: &[u8]) -> Judged
     ensures { λ r. ⌜ r ≡ judged (now (t .entry)) ⌝ }
 {
+    let number = refusal(t);
+    if number == 0 {
+        return Judged::Accepted;
+    }
+    Judged::Refused(number)
+}
+
+// The number alone, 0 where the table is accepted.
+pub fn refusal(t: &[u8]) -> u8
+    ensures { λ r. ⌜ r ≡ tableRefusal (now (t .entry)) ⌝ }
+{
     let found = examine(t);
     match found {
-        Examined::Sound(p) => Judged::Accepted,
-        Examined::Refused(n) => Judged::Refused(n),
+        Examined::Sound(p) => 0,
+        Examined::Refused(n) => n,
     }
 }
 
@@ -116,7 +127,7 @@ fn behind_walks(t: &[u8], p: Sections) -> Examined
 fn from_18(t: &[u8], p: Sections, buses: Numbers) -> u8
     requires { ⌜ Placed (now t) p ⌝ }
     requires { ⌜ buses ≡ idSet busType (now t) ⌝ }
-    ensures { λ r. ⌜ r ≡ refusal (from18 (now (t .entry))) ⌝ }
+    ensures { λ r. ⌜ r ≡ refusalOf (from18 (now (t .entry))) ⌝ }
 {
     let start = p.mappings;
     let links = p.links;
@@ -141,7 +152,7 @@ fn from_18(t: &[u8], p: Sections, buses: Numbers) -> u8
 fn from_17(t: &[u8], p: Sections, buses: Numbers, apics: Numbers, cpus: Numbers) -> u8
     requires { ⌜ Placed (now t) p ⌝ }
     requires { ⌜ (buses ≡ idSet busType (now t)) × (apics ≡ idSet ioApicType (now t)) × (cpus ≡ idSet processorType (now t)) ⌝ }
-    ensures { λ r. ⌜ r ≡ refusal (from17 (now (t .entry))) ⌝ }
+    ensures { λ r. ⌜ r ≡ refusalOf (from17 (now (t .entry))) ⌝ }
 {
     let start = p.interrupts;
     let locals = p.locals;
@@ -159,7 +170,7 @@ fn from_17(t: &[u8], p: Sections, buses: Numbers, apics: Numbers, cpus: Numbers)
 fn from_16(t: &[u8], p: Sections, buses: Numbers, cpus: Numbers, taken: Numbers) -> u8
     requires { ⌜ Placed (now t) p ⌝ }
     requires { ⌜ (buses ≡ idSet busType (now t)) × (cpus ≡ idSet processorType (now t)) × (taken ≡ takenSet (now t)) ⌝ }
-    ensures { λ r. ⌜ r ≡ refusal (from16 (now (t .entry))) ⌝ }
+    ensures { λ r. ⌜ r ≡ refusalOf (from16 (now (t .entry))) ⌝ }
 {
     let start = p.apics;
     let end = p.interrupts;
@@ -177,7 +188,7 @@ fn from_16(t: &[u8], p: Sections, buses: Numbers, cpus: Numbers, taken: Numbers)
 fn from_15(t: &[u8], p: Sections, cpus: Numbers, taken: Numbers) -> u8
     requires { ⌜ Placed (now t) p ⌝ }
     requires { ⌜ (cpus ≡ idSet processorType (now t)) × (taken ≡ takenSet (now t)) ⌝ }
-    ensures { λ r. ⌜ r ≡ refusal (from15 (now (t .entry))) ⌝ }
+    ensures { λ r. ⌜ r ≡ refusalOf (from15 (now (t .entry))) ⌝ }
 {
     let start = p.buses;
     let end = p.apics;
@@ -191,7 +202,7 @@ fn from_15(t: &[u8], p: Sections, cpus: Numbers, taken: Numbers) -> u8
 // 14: the processors, and the local APIC address of the header. 255 is taken from the start: no enabled APIC may have it.
 fn from_14(t: &[u8], p: Sections) -> u8
     requires { ⌜ Placed (now t) p ⌝ }
-    ensures { λ r. ⌜ r ≡ refusal (from14 (now (t .entry))) ⌝ }
+    ensures { λ r. ⌜ r ≡ refusalOf (from14 (now (t .entry))) ⌝ }
 {
     let end = p.buses;
     if numbers::le32(t, layout::LOCAL_APIC) % layout::LOCAL_APIC_STEP != 0 {

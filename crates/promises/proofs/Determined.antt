@@ -36,6 +36,7 @@ use Rattle.sections.proofs.extended.Reads as extended-sections
 use Rattle.judge.proofs.judge.Reads as judge
 use Rattle.judge.proofs.examine.Reads as examine
 use Rattle.exports.proofs.ruxtajma_judge.Reads as ruxtajma-judge
+use Rattle.judge.proofs.refusal.Reads as judge-refusal
 
 -- A contract whose parameters are only read: at any arguments it allows one result.
 abbrev pub Answers : {K : Type 0} {A R S : K → Type 0} → ((κ : K) → A κ → R κ → S κ → Type 0) → Type 0
@@ -174,3 +175,8 @@ examine-determined κ a x y s t p q = p ∙ sym q
 
 pub ruxtajma-judge-determined : Answers ruxtajma-judge.Post
 ruxtajma-judge-determined κ a x y s t p q = p ∙ sym q
+
+-- ---- judge
+
+pub judge-refusal-determined : Answers judge-refusal.Post
+judge-refusal-determined κ a x y s t p q = p ∙ sym q

@@ -1,31 +1,23 @@
 use borrow.Author.Needs.{needs}
-use Rattle.judge.proofs.Verdict.{judged-sound, judged-refused}
+use Rattle.judge.proofs.Laws.{is-accepted, is-refused}
+use native.Mathlib.Omega.{arith}
 use Rattle.judge.proofs.judge.Statement.{statement}
 use Rattle.judge.proofs.judge.Tie as tie
 use Rattle.judge.proofs.judge.Reads as reads
 use Rattle.judge.proofs.judge.Lts as lts
-use Rattle.judge.proofs.examine.Reads as examine-reads
+use Rattle.judge.proofs.refusal.Reads as refusal-reads
 
 -- src/lib.rt:28:9
-examine-requires : tie.Need-examine-requires
-examine-requires c κs = search needs
+refusal-requires : tie.Need-refusal-requires
+refusal-requires c κs = search needs
 
--- src/lib.rt:30:25
-enum-known-found : tie.Need-enum-known-found
-enum-known-found c = search needs
-
--- src/lib.rt:31:27
-enum-known-found-2 : tie.Need-enum-known-found-2
-enum-known-found-2 c = search needs
-
--- src/lib.rt:25:1
+-- src/lib.rt:30:9
 returns : tie.Need-returns
-returns c = judged-sound _ (c .before .before .before .examine .ensures) (c .before .found .given .1)
+returns c = is-accepted _ (c .before .refusal .ensures) (omega arith)
 
 -- src/lib.rt:25:1
 returns-2 : tie.Need-returns-2
-returns-2 c = judged-refused _ (c .before .before .before .examine .ensures) (c .before .found2 .given .1)
+returns-2 c = is-refused _ _ (c .before .refusal .ensures) (λ z. omega (arith, z))
 
 pub judge-spec : {M : Type 1} → statement M
-judge-spec =
-    tie.close (tie.spec examine-requires enum-known-found enum-known-found-2 returns returns-2)
+judge-spec = tie.close (tie.spec refusal-requires returns returns-2)
