@@ -3,7 +3,7 @@ use mathlib.Core.Path.{_≡_, refl}
 use mathlib.Core.List.{[], _∷_, _++_}
 use lib.ListN.{replicate}
 use Rattle.mps.specs.Words.{text, each}
-use Rattle.mps.specs.Judge.{judged}
+use Rattle.mps.specs.Judge.{judged, examined}
 use Rattle.mps.specs.Listing.{listed, listLeft, programOutput}
 use Rattle.mps.specs.Rules.{localSide}
 use Rattle.mps.specs.Routes.{routed, routesLeft}
@@ -11,7 +11,7 @@ use Rattle.mps.specs.Addresses.{seen}
 use Rattle.mps.specs.Writing.{partsOf, image, written, writeLeft}
 use Rattle.mps.specs.Edits.{runAnswers}
 use Rattle.mps.specs.Reader.{found, nextPlace}
-use Rattle.mps.specs.Answers.{judgedNumbers, routedNumbers, seenNumbers, writtenNumbers, editedNumbers, foundNumbers}
+use Rattle.mps.specs.Answers.{judgedNumbers, examinedNumbers, routedNumbers, seenNumbers, writtenNumbers, editedNumbers, foundNumbers}
 use Rattle.promises.specs.Board.{table, dump}
 use Rattle.promises.specs.Cases.{toInput9, dumpWithChecksum}
 use Rattle.promises.specs.Printed.{printed}
@@ -21,6 +21,11 @@ use Rattle.promises.proofs.Computed.{computed}
 pub board-judged : judgedNumbers (judged table) ≡ 0 ∷ []
 unfolding computed
 board-judged = refl
+
+-- Its sections: one processor behind the header, then one entry of each other type; no extended part.
+pub board-examined : examinedNumbers (examined table) ≡ 0 ∷ 64 ∷ 72 ∷ 80 ∷ 88 ∷ 96 ∷ 96 ∷ 96 ∷ 96 ∷ 96 ∷ []
+unfolding computed
+board-examined = refl
 
 -- Its listing has 147 bytes: with two bytes more the room's end stays, with one byte less all of it does.
 pub board-listed-count : writtenNumbers (listed dump (replicate 149 0xee)) ≡ 0 ∷ 147 ∷ []

@@ -19,7 +19,7 @@ use Rattle.mps.specs.Judge.{tableRules, tableRefusal, pointerRules, dumpRules, 
 use Rattle.laws.proofs.Refusals.{so, refusal-passed, refusal-none, refusal-behind, given-exactly, absent-only}
 
 -- A number is given exactly when its row is so and none of the rows before it is.
-abbrev Exactly : ℕ → ℕ → List Rule → Bool → Type 0
+abbrev pub Exactly : ℕ → ℕ → List Rule → Bool → Type 0
 Exactly given n before row = (given ≡ n) ↔ ((any so before ≡ false) × (row ≡ true))
 
 -- ---- A dump: 1 to 4

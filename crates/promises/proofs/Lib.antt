@@ -3,6 +3,7 @@ pub mod Printed
 pub mod Cases
 pub mod Bench
 pub mod Given
+pub mod Judge
 pub mod Climb
 pub mod Image
 pub mod Determined
