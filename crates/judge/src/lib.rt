@@ -123,6 +123,77 @@ fn behind_walks(t: &[u8], p: Sections) -> Examined
     Examined::Sound(p)
 }
 
+// 14: the processors, and the local APIC address of the header. 255 is taken from the start: no enabled APIC may have it.
+fn from_14(t: &[u8], p: Sections) -> u8
+    requires { ⌜ Placed (now t) p ⌝ }
+    ensures { λ r. ⌜ r ≡ refusalOf (from14 (now (t .entry))) ⌝ }
+{
+    let end = p.buses;
+    if numbers::le32(t, layout::LOCAL_APIC) % layout::LOCAL_APIC_STEP != 0 {
+        return 14;
+    }
+    if apics::wrong_boot(&t[layout::HEADER_SIZE..end]) {
+        return 14;
+    }
+    let own = sets::put(sets::empty(), layout::EVERYONE);
+    let cpus = apics::claim(&t[layout::HEADER_SIZE..end], layout::PROCESSOR_SIZE, own);
+    if cpus.twice {
+        return 14;
+    }
+    from_15(t, p, cpus.all, cpus.taken)
+}
+
+// 15: the buses.
+fn from_15(t: &[u8], p: Sections, cpus: Numbers, taken: Numbers) -> u8
+    requires { ⌜ Placed (now t) p ⌝ }
+    requires { ⌜ (cpus ≡ idSet processorType (now t)) × (taken ≡ takenSet (now t)) ⌝ }
+    ensures { λ r. ⌜ r ≡ refusalOf (from15 (now (t .entry))) ⌝ }
+{
+    let start = p.buses;
+    let end = p.apics;
+    let listed = buses::list(&t[start..end]);
+    if listed.wrong {
+        return 15;
+    }
+    from_16(t, p, listed.ids, cpus, taken)
+}
+
+// 16: the I/O APICs. `taken` are the IDs of enabled processors, and 255.
+fn from_16(t: &[u8], p: Sections, buses: Numbers, cpus: Numbers, taken: Numbers) -> u8
+    requires { ⌜ Placed (now t) p ⌝ }
+    requires { ⌜ (buses ≡ idSet busType (now t)) × (cpus ≡ idSet processorType (now t)) × (taken ≡ takenSet (now t)) ⌝ }
+    ensures { λ r. ⌜ r ≡ refusalOf (from16 (now (t .entry))) ⌝ }
+{
+    let start = p.apics;
+    let end = p.interrupts;
+    let ios = apics::claim(&t[start..end], layout::ENTRY_SIZE, taken);
+    if ios.twice {
+        return 16;
+    }
+    if apics::misplaced(&t[start..end]) {
+        return 16;
+    }
+    from_17(t, p, buses, ios.all, cpus)
+}
+
+// 17: what the interrupt entries of both sides say, with the listed buses, I/O APICs and processors.
+fn from_17(t: &[u8], p: Sections, buses: Numbers, apics: Numbers, cpus: Numbers) -> u8
+    requires { ⌜ Placed (now t) p ⌝ }
+    requires { ⌜ (buses ≡ idSet busType (now t)) × (apics ≡ idSet ioApicType (now t)) × (cpus ≡ idSet processorType (now t)) ⌝ }
+    ensures { λ r. ⌜ r ≡ refusalOf (from17 (now (t .entry))) ⌝ }
+{
+    let start = p.interrupts;
+    let locals = p.locals;
+    let end = p.mappings;
+    if interrupts::wrong(&t[start..locals], buses, apics, 255) {
+        return 17;
+    }
+    if interrupts::wrong(&t[locals..end], buses, cpus, layout::LOCAL_INPUT_MOST) {
+        return 17;
+    }
+    from_18(t, p, buses)
+}
+
 // 18: what the extended entries say, with the listed buses.
 fn from_18(t: &[u8], p: Sections, buses: Numbers) -> u8
     requires { ⌜ Placed (now t) p ⌝ }
@@ -146,75 +217,4 @@ fn from_18(t: &[u8], p: Sections, buses: Numbers) -> u8
         return 18;
     }
     0
-}
-
-// 17: what the interrupt entries of both sides say, with the listed buses, I/O APICs and processors.
-fn from_17(t: &[u8], p: Sections, buses: Numbers, apics: Numbers, cpus: Numbers) -> u8
-    requires { ⌜ Placed (now t) p ⌝ }
-    requires { ⌜ (buses ≡ idSet busType (now t)) × (apics ≡ idSet ioApicType (now t)) × (cpus ≡ idSet processorType (now t)) ⌝ }
-    ensures { λ r. ⌜ r ≡ refusalOf (from17 (now (t .entry))) ⌝ }
-{
-    let start = p.interrupts;
-    let locals = p.locals;
-    let end = p.mappings;
-    if interrupts::wrong(&t[start..locals], buses, apics, 255) {
-        return 17;
-    }
-    if interrupts::wrong(&t[locals..end], buses, cpus, layout::LOCAL_INPUT_MOST) {
-        return 17;
-    }
-    from_18(t, p, buses)
-}
-
-// 16: the I/O APICs. `taken` are the IDs of enabled processors, and 255.
-fn from_16(t: &[u8], p: Sections, buses: Numbers, cpus: Numbers, taken: Numbers) -> u8
-    requires { ⌜ Placed (now t) p ⌝ }
-    requires { ⌜ (buses ≡ idSet busType (now t)) × (cpus ≡ idSet processorType (now t)) × (taken ≡ takenSet (now t)) ⌝ }
-    ensures { λ r. ⌜ r ≡ refusalOf (from16 (now (t .entry))) ⌝ }
-{
-    let start = p.apics;
-    let end = p.interrupts;
-    let ios = apics::claim(&t[start..end], layout::ENTRY_SIZE, taken);
-    if ios.twice {
-        return 16;
-    }
-    if apics::misplaced(&t[start..end]) {
-        return 16;
-    }
-    from_17(t, p, buses, ios.all, cpus)
-}
-
-// 15: the buses.
-fn from_15(t: &[u8], p: Sections, cpus: Numbers, taken: Numbers) -> u8
-    requires { ⌜ Placed (now t) p ⌝ }
-    requires { ⌜ (cpus ≡ idSet processorType (now t)) × (taken ≡ takenSet (now t)) ⌝ }
-    ensures { λ r. ⌜ r ≡ refusalOf (from15 (now (t .entry))) ⌝ }
-{
-    let start = p.buses;
-    let end = p.apics;
-    let listed = buses::list(&t[start..end]);
-    if listed.wrong {
-        return 15;
-    }
-    from_16(t, p, listed.ids, cpus, taken)
-}
-
-// 14: the processors, and the local APIC address of the header. 255 is taken from the start: no enabled APIC may have it.
-fn from_14(t: &[u8], p: Sections) -> u8
-    requires { ⌜ Placed (now t) p ⌝ }
-    ensures { λ r. ⌜ r ≡ refusalOf (from14 (now (t .entry))) ⌝ }
-{
-    let end = p.buses;
-    if numbers::le32(t, layout::LOCAL_APIC) % layout::LOCAL_APIC_STEP != 0 {
-        return 14;
-    }
-    if apics::wrong_boot(&t[layout::HEADER_SIZE..end]) {
-        return 14;
-    }
-    let own = sets::put(sets::empty(), layout::EVERYONE);
-    let cpus = apics::claim(&t[layout::HEADER_SIZE..end], layout::PROCESSOR_SIZE, own);
-    if cpus.twice {
-        return 14;
-    }
-    from_15(t, p, cpus.all, cpus.taken)
 }

@@ -1,3 +1,4 @@
+-- `behind_signature` meets its contract: a law of Laws.antt for each way out.
 use borrow.Author.Needs.{needs}
 use mathlib.Core.Path.{sym}
 use native.Mathlib.Omega.{arith}
@@ -9,39 +10,30 @@ use Rattle.header.proofs.behind_signature.Reads as reads
 use Rattle.header.proofs.behind_signature.Lts as lts
 use Rattle.sums.proofs.sum.Reads as sum-reads
 
--- src/lib.rt:27:9
 returns : tie.Need-returns
 returns c = is-short _ (omega arith)
 
--- src/lib.rt:30:9
 returns-2 : tie.Need-returns-2
 returns-2 c = is-long _ (omega arith)
 
--- src/lib.rt:33:9
 returns-3 : tie.Need-returns-3
 returns-3 c = is-past _ (omega arith)
 
--- src/lib.rt:35:18
 slice-aggregate-sum : tie.Need-slice-aggregate-sum
 slice-aggregate-sum c = sym (length-take-le _ (c .before .before .before .before .before .args .t .now) (omega arith))
 
--- src/lib.rt:35:8
 sum-requires : tie.Need-sum-requires
 sum-requires c κs = search needs
 
--- src/lib.rt:36:9
 returns-4 : tie.Need-returns-4
 returns-4 c = is-missummed _ (omega arith) (omega arith) (omega arith) (c .before .sum .ensures) (c .before .before .before .before .before .before .before .pre .0) (c .if4 .taken)
 
--- src/lib.rt:38:8
 shared-slice-read-if5 : tie.Need-shared-slice-read-if5
 shared-slice-read-if5 c = search needs
 
--- src/lib.rt:39:9
 returns-5 : tie.Need-returns-5
 returns-5 c = is-unknown _ (omega arith) (omega arith) (omega arith) (c .before .before .before .sum .ensures) (c .before .before .before .before .before .before .before .before .before .pre .0) (omega arith) (c .if5 .taken)
 
--- src/lib.rt:24:1
 returns-6 : tie.Need-returns-6
 returns-6 c = is-good _ (omega arith) (omega arith) (omega arith) (c .before .before .before .sum .ensures) (c .before .before .before .before .before .before .before .before .before .pre .0) (omega arith) (c .if5 .left)
 

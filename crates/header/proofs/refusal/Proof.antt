@@ -1,3 +1,4 @@
+-- `refusal` meets its contract: 5 and 6 here, 7 to 9 by what `behind_signature` ensures.
 use borrow.Author.Needs.{needs}
 use mathlib.Core.Path.{sym, _∙_}
 use native.Mathlib.Omega.{arith}
@@ -10,39 +11,30 @@ use Rattle.header.proofs.behind_signature.Reads as behind-signature-rea
 use Rattle.numbers.proofs.le16.Reads as le16-reads
 use Rattle.slices.proofs.same.Reads as same-reads
 
--- src/lib.rt:14:9
 returns : tie.Need-returns
 returns c = is-cut _ (c .if1 .taken)
 
--- src/lib.rt:16:16
 le16-requires : tie.Need-le16-requires
 le16-requires c κs = search needs
 
--- src/lib.rt:16:16
 cast-base : tie.Need-cast-base
 cast-base c = search needs
 
--- src/lib.rt:17:21
 slice-aggregate-same : tie.Need-slice-aggregate-same
 slice-aggregate-same c = signature-size (c .before .before .before .before .args .t .now) (c .before .before .if1 .left)
 
--- src/lib.rt:17:30
 slice-aggregate-same-2 : tie.Need-slice-aggregate-same-2
 slice-aggregate-same-2 c = search needs
 
--- src/lib.rt:17:8
 same-requires : tie.Need-same-requires
 same-requires c κs = search needs
 
--- src/lib.rt:18:9
 behind-signature-requires : tie.Need-behind-signature-requires
 behind-signature-requires c κs = search needs
 
--- src/lib.rt:18:9
 returns-2 : tie.Need-returns-2
 returns-2 c = c .behind-signature .ensures ∙ is-signed _ (omega arith) (sym (c .before .before .same .ensures) ∙ c .before .if2 .taken)
 
--- src/lib.rt:10:1
 returns-3 : tie.Need-returns-3
 returns-3 c = is-unsigned _ (omega arith) (sym (c .before .same .ensures) ∙ c .if2 .left)
 

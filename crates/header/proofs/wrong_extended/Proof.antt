@@ -1,3 +1,4 @@
+-- `wrong_extended` meets its contract: too long, outside the buffer, or by the sum with byte 42.
 use borrow.Author.Needs.{needs}
 use native.Mathlib.Omega.{arith}
 use Rattle.header.proofs.Laws.{is-too-long, is-outside, is-summed}
@@ -10,63 +11,48 @@ use Rattle.numbers.proofs.le16.Reads as le16-reads
 use Rattle.std.proofs.num.wrapping_add_u8.Reads as wrapping-add-u8-reads
 use Rattle.sums.proofs.sum.Reads as sum-reads
 
--- src/lib.rt:48:16
 le16-requires : tie.Need-le16-requires
 le16-requires c κs = search needs
 
--- src/lib.rt:48:16
 cast-base : tie.Need-cast-base
 cast-base c = search needs
 
--- src/lib.rt:49:16
 le16-requires-2 : tie.Need-le16-requires-2
 le16-requires-2 c κs = search needs
 
--- src/lib.rt:49:16
 cast-size : tie.Need-cast-size
 cast-size c = search needs
 
--- src/lib.rt:51:9
 returns : tie.Need-returns
 returns c = is-too-long _ (omega arith)
 
--- src/lib.rt:53:18
 add-if2 : tie.Need-add-if2
 add-if2 c = search needs
 
--- src/lib.rt:54:9
 returns-2 : tie.Need-returns-2
 returns-2 c = is-outside _ (omega arith)
 
--- src/lib.rt:56:34
 add-sum : tie.Need-add-sum
 add-sum c = search needs
 
--- src/lib.rt:56:25
 sub-sum : tie.Need-sub-sum
 sub-sum c = search needs
 
--- src/lib.rt:56:25
 part-sum-start : tie.Need-part-sum-start
 part-sum-start c = search needs
 
--- src/lib.rt:56:25
 part-sum-end : tie.Need-part-sum-end
 part-sum-end c = search needs
 
--- src/lib.rt:56:9
 sum-requires : tie.Need-sum-requires
 sum-requires c κs = search needs
 
--- src/lib.rt:57:31
 byte-requires : tie.Need-byte-requires
 byte-requires c κs = search needs
 
--- src/lib.rt:57:5
 wrapping-add-u8-requires : tie.Need-wrapping-add-u8-requires
 wrapping-add-u8-requires c κs = search needs
 
--- src/lib.rt:45:1
 returns-3 : tie.Need-returns-3
 returns-3 c = is-summed _ (c .before .byte .ensures) (c .before .before .sum .ensures) (c .wrapping-add-u8 .ensures) (c .before .before .before .before .before .before .before .le16 .ensures) (c .before .before .before .before .before .before .le162 .ensures) (omega arith) (omega arith)
 

@@ -1,21 +1,16 @@
+-- `behind_walks` meets its contract, from the number that `from_14` ensures.
+use native.Mathlib.Omega.{arith}
 use borrow.Author.Needs.{needs}
 use Rattle.judge.proofs.Verdict.{rules-refused, rules-passed}
-use native.Mathlib.Omega.{arith}
 use Rattle.judge.proofs.behind_walks.Statement.{statement}
 use Rattle.judge.proofs.behind_walks.Tie as tie
-use Rattle.judge.proofs.behind_walks.Reads as reads
-use Rattle.judge.proofs.behind_walks.Lts as lts
-use Rattle.judge.proofs.from_14.Reads as from-14-reads
 
--- src/lib.rt:108:9
 from-14-requires : tie.Need-from-14-requires
 from-14-requires c κs = search needs
 
--- src/lib.rt:110:9
 returns : tie.Need-returns
 returns c = rules-refused _ (c .before .before .before .pre) (c .before .from-14 .ensures) (c .if1 .taken)
 
--- src/lib.rt:104:1
 returns-2 : tie.Need-returns-2
 returns-2 c = rules-passed _ (c .before .before .before .pre) (c .before .from-14 .ensures) (omega arith)
 

@@ -1,28 +1,21 @@
+-- `refusal` meets its contract: the number of what `examine` answers.
 use borrow.Author.Needs.{needs}
 use Rattle.judge.proofs.Laws.{sound-number, refused-number}
 use Rattle.judge.proofs.refusal.Statement.{statement}
 use Rattle.judge.proofs.refusal.Tie as tie
-use Rattle.judge.proofs.refusal.Reads as reads
-use Rattle.judge.proofs.refusal.Lts as lts
-use Rattle.judge.proofs.examine.Reads as examine-reads
 
--- src/lib.rt:39:9
 examine-requires : tie.Need-examine-requires
 examine-requires c κs = search needs
 
--- src/lib.rt:41:25
 enum-known-found : tie.Need-enum-known-found
 enum-known-found c = search needs
 
--- src/lib.rt:42:27
 enum-known-found-2 : tie.Need-enum-known-found-2
 enum-known-found-2 c = search needs
 
--- src/lib.rt:36:1
 returns : tie.Need-returns
 returns c = sound-number _ (c .before .before .before .examine .ensures) (c .before .found .given .1)
 
--- src/lib.rt:36:1
 returns-2 : tie.Need-returns-2
 returns-2 c = refused-number _ (c .before .before .before .examine .ensures) (c .before .found2 .given .1)
 
