@@ -71,18 +71,18 @@ full = [CPU, ISA, IOAPIC] + [INT] * 502
 chain = [bus(k) for k in range(1, 4)]
 
 vectors = [
-    # The bench board, and what has been seen elsewhere.
+    # The bench board, and the errors that the paper has seen elsewhere, under its words for them.
     ("the bench board", board, 0),
     ("bytes behind the table", board + b"\xff" * 9, 0),
     ("adding header bytes only", mended(board, 44), 8),
-    ("disabled processors share an ID", table([CPU, cpu(0, 0), cpu(0, 0)] + BOARD[1:]), 0),
-    ("unknown extended types", table(BOARD, [bytes([131, 2]), bytes([131, 3, 0]), bytes([255, 6, 1, 2, 3, 4])]), 0),
-    ("255 names all", table([CPU, ISA, IOAPIC, line(3, to=255), line(4, to=255)]), 0),
+    ("counting disabled processors in the duplicate test", table([CPU, cpu(0, 0), cpu(0, 0)] + BOARD[1:]), 0),
+    ("refusing unknown extended types", table(BOARD, [bytes([131, 2]), bytes([131, 3, 0]), bytes([255, 6, 1, 2, 3, 4])]), 0),
+    ("skipping 255", table([CPU, ISA, IOAPIC, line(3, to=255), line(4, to=255)]), 0),
     # Others.
     ("base 4,096", table(full), 0),
     ("base 4,097", table(full, base=4097) + bytes(1), 7),
     ("a lone bus its own parent", table([CPU, ISA], [link(0, 0)]), 18),
-    ("255 without I/O APICs", table([CPU, ISA, line(3, to=255)]), 0),
+    ("destination 255 without I/O APICs", table([CPU, ISA, line(3, to=255)]), 0),
     ("a sound header and no entries", table([]), 14),
     # Bad input.
     ("no bytes", b"", 5),
