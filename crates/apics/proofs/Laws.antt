@@ -19,8 +19,8 @@ use Rattle.laws.proofs.Lists.{keep-in, keep-out}
 use Rattle.laws.proofs.Rows.{rows-done, rows-next, row-byte}
 use Rattle.numbers.proofs.Laws.{le-row}
 use Rattle.sets.specs.declared.Numbers.{Numbers}
-use Rattle.sets.specs.Sets.{noNumbers, holds, withNumber}
-use Rattle.sets.proofs.Laws.{putAll, twiceIn}
+use Rattle.sets.specs.Sets.{putAll, noNumbers, holds, withNumber}
+use Rattle.sets.proofs.Laws.{twiceIn}
 use Rattle.apics.specs.declared.Claimed.{Claimed}
 use Rattle.apics.specs.Apics.{claims, flagged, claimed, wrongBoot}
 

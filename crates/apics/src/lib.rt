@@ -9,7 +9,7 @@ use mps::layout;
 use sets::Numbers;
 ghost use mathlib.Core.Path.{_≡_};
 ghost use Rattle.mps.specs.Words.{keep, any};
-ghost use Rattle.mps.specs.Layout.{enabled};
+ghost use Rattle.mps.specs.Layout.{enabled, processorSize, entrySize};
 ghost use Rattle.mps.specs.Rules.{misplaced as isMisplaced};
 ghost use Rattle.mps.specs.Sections.{rows};
 ghost use Rattle.apics.specs.Apics.{claimed, wrongBoot};
@@ -63,7 +63,7 @@ pub fn claim(s: &[u8], size: usize, taken: Numbers) -> Claimed
 
 // Of processors: whether not exactly one is the bootstrap processor, or that one is disabled.
 pub fn wrong_boot(s: &[u8]) -> bool
-    ensures { λ r. ⌜ r ≡ wrongBoot (rows 20 (now (s .entry))) ⌝ }
+    ensures { λ r. ⌜ r ≡ wrongBoot (rows processorSize (now (s .entry))) ⌝ }
 {
     let mut found: u8 = 0;
     let mut at = 0;
@@ -85,7 +85,7 @@ pub fn wrong_boot(s: &[u8]) -> bool
 
 // Of I/O APICs: whether an enabled one stands at address 0 or at no multiple of 1,024.
 pub fn misplaced(s: &[u8]) -> bool
-    ensures { λ r. ⌜ r ≡ any isMisplaced (keep enabled (rows 8 (now (s .entry)))) ⌝ }
+    ensures { λ r. ⌜ r ≡ any isMisplaced (keep enabled (rows entrySize (now (s .entry)))) ⌝ }
 {
     let mut at = 0;
     while layout::ENTRY_SIZE <= s.len() - at {

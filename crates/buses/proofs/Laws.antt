@@ -15,8 +15,8 @@ use Rattle.laws.proofs.Parts.{row-part}
 use Rattle.laws.proofs.Rows.{rows-done, rows-next, row-byte}
 use Rattle.laws.proofs.Small.{Bytes, small-rows, below-each}
 use Rattle.sets.specs.declared.Numbers.{Numbers}
-use Rattle.sets.specs.Sets.{noNumbers, holds, withNumber}
-use Rattle.sets.proofs.Laws.{putAll, twiceIn, twice-is}
+use Rattle.sets.specs.Sets.{putAll, noNumbers, holds, withNumber}
+use Rattle.sets.proofs.Laws.{twiceIn, twice-is}
 use Rattle.buses.specs.declared.Listed.{Listed}
 use Rattle.buses.specs.Buses.{lists, listed}
 

@@ -2,7 +2,7 @@
 use mathlib.Core.Bool.{true, false, _||_}
 use mathlib.Core.List.{List, [], _∷_}
 use Prim.Native.Nat.{ℕ}
-use Rattle.mps.specs.Layout.{Entry, idOf}
+use Rattle.mps.specs.Layout.{Entry, entrySize, idOf}
 use Rattle.mps.specs.Rules.{unknownName}
 use Rattle.mps.specs.Sections.{rows}
 use Rattle.sets.specs.declared.Numbers.{Numbers}
@@ -19,6 +19,6 @@ lists ids (b ∷ bs) =
       | false ↦ lists (withNumber ids (idOf b)) bs
     ]
 
--- Over bus entries, 8 bytes each.
+-- Over bus entries.
 unfoldable pub listed : List ℕ → Listed
-listed s = lists noNumbers (rows 8 s)
+listed s = lists noNumbers (rows entrySize s)

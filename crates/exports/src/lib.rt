@@ -1,6 +1,8 @@
-// The calls for C: the proved library under plain names, to be linked from target/staticlib/libexports.a.
+// The calls for C: the proved library under plain names, for a static library (`rt staticlib exports`).
 //
-// A slice is a pointer and a length. Each answer is in the paper's numbers: 0 for accepted, else the refusal's.
+// Promised: each call answers the paper's numbers, 0 for accepted and else the refusal's, of any bytes; the definitions
+// stand in mps's specs/Judge.antt. A slice is a pointer and a length: the caller lends that many readable bytes for the
+// time of the call, and the pointer is not null even where the length is 0.
 ghost use mathlib.Core.Path.{_≡_};
 ghost use Rattle.mps.specs.Judge.{tableRefusal};
 

@@ -12,10 +12,11 @@ use Rattle.mps.specs.Words.{same}
 use Rattle.mps.specs.Sums.{total, sum256}
 use Rattle.mps.specs.Layout.{headerSize, partMost, baseLength, specRevision, knownRevision, extendedLength, extendedChecksum, extendedEnd, extendedPart}
 use Rattle.mps.specs.Refusals.{refusal, baseNumber}
-use Rattle.mps.specs.Table.{headerCut, wrongSignature, wrongBaseLength, wrongBaseSum, wrongRevision}
+use Rattle.mps.specs.Table.{headerCut, wrongSignature, wrongBaseLength, wrongBaseSum, wrongRevision, wrongExtendedPart}
+use Rattle.mps.specs.Judge.{tableRules}
 use Rattle.laws.proofs.Tests.{or-parts}
 use Rattle.laws.proofs.Refusals.{refusal-stop, refusal-go, refusal-pass, refusal-end}
-use Rattle.header.specs.Header.{baseRules, headerRules, headerRefusal, wrongExtendedPart}
+use Rattle.header.specs.Header.{baseRules, headerRules, headerRefusal}
 
 -- "PCMP", as the code has it.
 abbrev pcmp : List ℕ
@@ -28,29 +29,29 @@ module _ (t : List ℕ) where
   signature-size h = sym (length-take-le 4 t (omega arith))
 
   pub is-cut : length t < headerSize → 5 ≡ headerRefusal t
-  unfolding headerRefusal headerRules headerCut
+  unfolding headerRefusal headerRules baseRules tableRules headerCut
   is-cut h = sym (refusal-stop _ _ (lt-ltb _ _ h))
 
   pub is-unsigned : headerSize ≤ length t → same (take 4 t) pcmp ≡ false → 6 ≡ headerRefusal t
-  unfolding headerRefusal headerRules headerCut wrongSignature
+  unfolding headerRefusal headerRules baseRules tableRules headerCut wrongSignature
   is-unsigned h e = sym (refusal-go _ _ (le-ltb _ _ h) ∙ refusal-stop _ _ (ap not e))
 
   pub is-signed : headerSize ≤ length t → same (take 4 t) pcmp ≡ true → refusal (baseRules t) ≡ headerRefusal t
-  unfolding headerRefusal headerRules headerCut wrongSignature
+  unfolding headerRefusal headerRules baseRules tableRules headerCut wrongSignature
   is-signed h e = sym (refusal-go _ _ (le-ltb _ _ h) ∙ refusal-go _ _ (ap not e))
 
   -- ---- 7 to 9
 
   pub is-short : baseLength t < headerSize → baseNumber ≡ refusal (baseRules t)
-  unfolding baseRules wrongBaseLength
+  unfolding headerRules baseRules tableRules wrongBaseLength
   is-short h = sym (refusal-stop _ _ (rw (lt-ltb _ _ h)))
 
   pub is-long : partMost < baseLength t → baseNumber ≡ refusal (baseRules t)
-  unfolding baseRules wrongBaseLength
+  unfolding headerRules baseRules tableRules wrongBaseLength
   is-long h = sym (refusal-stop _ _ (rw (lt-ltb _ _ h, or-true)))
 
   pub is-past : length t < baseLength t → baseNumber ≡ refusal (baseRules t)
-  unfolding baseRules wrongBaseLength
+  unfolding headerRules baseRules tableRules wrongBaseLength
   is-past h = sym (refusal-stop _ _ (rw (lt-ltb _ _ h, or-true)))
 
   module _ (low : headerSize ≤ baseLength t) (high : baseLength t ≤ partMost) (in-it : baseLength t ≤ length t) where
@@ -69,15 +70,15 @@ module _ (t : List ℕ) where
       sum-good z = rw (← q, ← e, eq-eqb x 0 z)
 
       pub is-missummed : (x ≡ 0 → ⊥) → 8 ≡ refusal (baseRules t)
-      unfolding baseRules
+      unfolding headerRules baseRules tableRules
       is-missummed n = sym (refusal-go _ _ base-fits ∙ refusal-stop _ _ (sum-wrong n))
 
       pub is-unknown : x ≡ 0 → (getD t 6 0 ≡ specRevision → ⊥) → 9 ≡ refusal (baseRules t)
-      unfolding baseRules wrongRevision knownRevision
+      unfolding headerRules baseRules tableRules wrongRevision knownRevision
       is-unknown z n = sym (refusal-go _ _ base-fits ∙ refusal-go _ _ (sum-good z) ∙ refusal-stop _ _ (ap not (ne-eqb _ _ n)))
 
       pub is-good : x ≡ 0 → getD t 6 0 ≡ specRevision → 0 ≡ refusal (baseRules t)
-      unfolding baseRules wrongRevision knownRevision
+      unfolding headerRules baseRules tableRules wrongRevision knownRevision
       is-good z r =
           sym (refusal-go _ _ base-fits ∙ refusal-go _ _ (sum-good z) ∙ refusal-go _ _ (ap not (eq-eqb _ _ r)) ∙ refusal-end)
 
@@ -110,7 +111,7 @@ pub record Header (t : List ℕ) : Type 0 where
 
 module _ (t : List ℕ) where
   pub header-passed : headerRefusal t ≡ 0 → Header t
-  unfolding headerRefusal headerRules baseRules headerCut wrongBaseLength
+  unfolding headerRefusal headerRules baseRules tableRules headerCut wrongBaseLength
   header-passed e =
       let five = refusal-pass 5 (headerCut t) _ (omega arith) e in
       let six = refusal-pass 6 (wrongSignature t) _ (omega arith) (five .1) in

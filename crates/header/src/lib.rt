@@ -1,15 +1,16 @@
 // What the header of a bare table says of its two parts: refusals 5 to 9, and of 13 the extended part's length and sum.
 //
 // Promised of any bytes: `refusal` answers the number of the first of the rows 5 to 9 that is so, and `wrong_extended`
-// whether the extended part is too long, past the buffer or wrongly summed. The definitions stand in mps's
-// specs/Table.antt and, put together, in specs/Header.antt.
+// whether the extended part is too long, past the buffer or wrongly summed (`wrongExtendedPart`). The definitions stand in
+// mps's specs/Table.antt; specs/Header.antt takes the rows 5 to 9 out of those of the table.
 use mps::layout;
 ghost use mathlib.Core.Path.{_≡_};
 ghost use Prim.Native.Nat.{_≤_};
 ghost use lib.ListN.{length};
 ghost use Rattle.mps.specs.Layout.{headerSize, baseLength};
 ghost use Rattle.mps.specs.Refusals.{refusal as refusalOf};
-ghost use Rattle.header.specs.Header.{baseRules, headerRefusal, wrongExtendedPart};
+ghost use Rattle.mps.specs.Table.{wrongExtendedPart};
+ghost use Rattle.header.specs.Header.{baseRules, headerRefusal};
 
 pub fn refusal(t: &[u8]) -> u8
     ensures { λ r. ⌜ r ≡ headerRefusal (now (t .entry)) ⌝ }

@@ -3,18 +3,19 @@
 use Prim.Native.Nat.{ℕ, suc, _+_, _≤_, _<_}
 use mathlib.Core.Path.{_≡_, refl, ap, _∙_}
 use mathlib.Core.Bool.{false}
-use mathlib.Core.List.{List}
+use mathlib.Core.List.{List, _++_}
 use native.Mathlib.Omega.{arith}
 use native.Mathlib.Nat.{add-zero}
 use lib.ListN.{length}
-use Rattle.mps.specs.Words.{part, keep}
-use Rattle.mps.specs.Layout.{ofType, headerSize, mappingType, baseLength, extendedEnd, basePart, extendedPart, baseEntries, extendedEntries}
+use Rattle.mps.specs.Words.{part, keep, cut}
+use Rattle.mps.specs.Layout.{ofType, headerSize, mappingType, baseLength, extendedEnd, basePart, extendedPart, extendedEntryLength, baseEntries, extendedEntries}
 use Rattle.mps.specs.Table.{walkFrom, extendedFrom}
 use Rattle.mps.specs.Sections.{rows, span, baseAfter, extendedAfter, sections}
-use Rattle.laws.proofs.Parts.{length-part, part-part}
+use Rattle.laws.proofs.Parts.{length-part, part-part, drop-part}
 use Rattle.laws.proofs.Small.{Bytes}
 use Rattle.sections.specs.Runs.{sizeOf}
 use Rattle.sections.proofs.Laws.{span-ascends, base-rows, base-end, extended-rows, extended-end}
+use Rattle.sections.proofs.Order.{base-order, extended-order}
 use Rattle.judge.specs.Placed.{Placed}
 
 -- ---- The base
@@ -39,6 +40,14 @@ module _ (t : List ℕ) (low : headerSize ≤ baseLength t) (inside : baseLength
   unfolding baseAfter span
   after-none = refl
 
+  in-order :
+      baseEntries t
+      ≡ keep (ofType 0) (baseEntries t)
+      ++ (keep (ofType 1) (baseEntries t)
+      ++ (keep (ofType 2) (baseEntries t) ++ (keep (ofType 3) (baseEntries t) ++ keep (ofType 4) (baseEntries t))))
+  unfolding baseEntries
+  in-order = base-order (basePart t) w
+
 -- ---- The extended part
 
 module _ (t : List ℕ) (inside : extendedEnd t ≤ length t) (x : extendedFrom 0 (extendedEntries t) ≡ false) where
@@ -62,6 +71,14 @@ module _ (t : List ℕ) (inside : extendedEnd t ≤ length t) (x : extendedFrom 
   unfolding extendedAfter span
   more-none = add-zero (baseLength t)
 
+  more-in-order :
+      extendedEntries t
+      ≡ keep (ofType 128) (extendedEntries t)
+      ++ (keep (ofType 129) (extendedEntries t)
+      ++ (keep (ofType 130) (extendedEntries t) ++ cut extendedEntryLength 0 (part (extendedAfter 3 t) (extendedEnd t) t)))
+  unfolding extendedEntries extendedAfter
+  more-in-order = rw (← drop-part (baseLength t) (extendedEnd t) (span 128 3 (extendedEntries t)) t) (extended-order (extendedPart t) x)
+
 -- ---- Both
 
 pub placed :
@@ -77,18 +94,28 @@ placed t bytes low inside w x =
     let more = more-at t inside x in
     let b = more-ascends t inside x in
     let most = more-all t inside x in
+    let k0 = rw none at (base 0 (omega (arith, a 1, a 2, a 3, a 4, all))) in
+    let k1 = base 1 (omega (arith, a 2, a 3, a 4, all)) in
+    let k2 = base 2 (omega (arith, a 3, a 4, all)) in
+    let k3 = base 3 (omega (arith, a 4, all)) in
+    let k4 = rw all at (base 4 (omega (arith, all))) in
+    let m0 = rw (more-none t inside x) at (more 0 (omega arith) (omega (arith, b 1, b 2, most))) in
+    let m1 = more 1 (omega arith) (omega (arith, b 2, most)) in
+    let m2 = more 2 (omega arith) most in
     record {
       bytes = bytes;
-      processors = rw none at (base 0 (omega (arith, a 1, a 2, a 3, a 4, all)));
-      buses = base 1 (omega (arith, a 2, a 3, a 4, all));
-      apics = base 2 (omega (arith, a 3, a 4, all));
-      interrupts = base 3 (omega (arith, a 4, all));
-      locals = rw all at (base 4 (omega (arith, all)));
-      mappings = rw (more-none t inside x) at (more 0 (omega arith) (omega (arith, b 1, b 2, most)));
-      links = more 1 (omega arith) (omega (arith, b 2, most));
-      modifiers = more 2 (omega arith) most;
+      processors = k0;
+      buses = k1;
+      ioapics = k2;
+      interrupts = k3;
+      locals = k4;
+      mappings = m0;
+      links = m1;
+      modifiers = m2;
+      base-order = in-order t low fits w ∙ rw (k0, k1, k2, k3, k4);
+      extended-order = more-in-order t inside x ∙ rw (m0, m1, m2);
       from-header = omega (arith, a 0, none);
-      to-apics = a 1;
+      to-ioapics = a 1;
       to-interrupts = a 2;
       to-locals = a 3;
       to-mappings = omega (arith, a 4, all);

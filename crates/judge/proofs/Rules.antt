@@ -16,20 +16,20 @@ use Rattle.mps.specs.Sections.{rows}
 use Rattle.mps.specs.declared.Sections.{Sections}
 use Rattle.laws.proofs.Tests.{eqb-comm, or-four}
 use Rattle.laws.proofs.Small.{Bytes, Small, bytes-take, bytes-drop, small-cut, small-keep, below-each, any-same, any-or}
-use Rattle.sets.specs.Sets.{noNumbers, holds, withNumber}
-use Rattle.sets.proofs.Laws.{putAll, twiceIn, twice-in, holds-all, holds-put, holds-empty}
+use Rattle.sets.specs.Sets.{putAll, noNumbers, holds, withNumber}
+use Rattle.sets.proofs.Laws.{twiceIn, twice-in, holds-all, holds-put, holds-empty}
 use Rattle.apics.specs.declared.Claimed.{Claimed}
 use Rattle.apics.specs.Apics.{claimed, wrongBoot}
 use Rattle.apics.proofs.Laws.{claimed-twice, claimed-taken, claimed-all}
 use Rattle.buses.specs.Buses.{listed}
 use Rattle.buses.proofs.Laws.{listed-wrong, listed-ids}
-use Rattle.interrupts.specs.Lines.{wrongLine}
-use Rattle.interrupts.proofs.Laws.{wrong-line-io, wrong-line-local}
-use Rattle.spaces.specs.Spaces.{wrongMap, wrongLink, wrongMod}
-use Rattle.spaces.proofs.Laws.{wrong-map, wrong-link, wrong-mod}
+use Rattle.interrupts.specs.Interrupts.{wrongInterruptIn}
+use Rattle.interrupts.proofs.Laws.{wrong-interrupt-io, wrong-interrupt-local}
+use Rattle.spaces.specs.Spaces.{wrongMappingIn, wrongHierarchyIn, wrongModifierIn}
+use Rattle.spaces.proofs.Laws.{wrong-mapping-in, wrong-hierarchy-in, wrong-modifier-in}
 use Rattle.parents.specs.Parents.{wrongParents}
 use Rattle.judge.specs.Placed.{Placed}
-use Rattle.judge.specs.Stages.{idSet, own, takenSet}
+use Rattle.judge.specs.Stages.{idSet, only255, takenSet}
 
 -- ---- Tests, gathered in another order
 
@@ -54,8 +54,8 @@ common-none [] = refl
 common-none (x ∷ ids) = common-none ids
 
 -- Whether an ID of a list is 255 or one of those that were put to it.
-pub any-taken : (cs ids : List ℕ) → Bytes ids → any (holds (putAll own cs)) ids ≡ (common ids cs || among everyone ids)
-unfolding any common among own
+pub any-taken : (cs ids : List ℕ) → Bytes ids → any (holds (putAll only255 cs)) ids ≡ (common ids cs || among everyone ids)
+unfolding any common among only255
 any-taken cs [] b = refl
 any-taken cs (x ∷ ids) b =
     rw (
@@ -68,14 +68,9 @@ any-taken cs (x ∷ ids) b =
     )
     (or-four (among x cs) (eqb everyone x) (common ids cs) (among everyone ids))
 
--- Alone, it holds 255.
-any-own : (ids : List ℕ) → Bytes ids → any (holds own) ids ≡ among everyone ids
-unfolding putAll
-any-own ids b = any-taken [] ids b ∙ rw (common-none ids)
-
 -- Whether an ID is 255, one of those put to it, or met before.
-pub twice-taken : (cs ids : List ℕ) → Bytes ids → twiceIn (putAll own cs) ids ≡ (common ids cs || among everyone ids || twice ids)
-twice-taken cs ids b = twice-in (putAll own cs) ids (λ i l. b i) ∙ rw (any-taken cs ids b)
+pub twice-taken : (cs ids : List ℕ) → Bytes ids → twiceIn (putAll only255 cs) ids ≡ (common ids cs || among everyone ids || twice ids)
+twice-taken cs ids b = twice-in (putAll only255 cs) ids (λ i l. b i) ∙ rw (any-taken cs ids b)
 
 -- ---- What the rules say of a table whose sections are known
 
@@ -85,10 +80,10 @@ module _ (t : List ℕ) (p : Sections) (h : Placed t p) where
   processorBytes = part headerSize (p .buses) t
 
   abbrev busBytes : List ℕ
-  busBytes = part (p .buses) (p .apics) t
+  busBytes = part (p .buses) (p .ioapics) t
 
   abbrev apicBytes : List ℕ
-  apicBytes = part (p .apics) (p .interrupts) t
+  apicBytes = part (p .ioapics) (p .interrupts) t
 
   bytes-part : (from to : ℕ) → Bytes (part from to t)
   bytes-part from to = bytes-take (to - from) (drop from t) (bytes-drop from t (h .bytes))
@@ -109,13 +104,13 @@ module _ (t : List ℕ) (p : Sections) (h : Placed t p) where
 
   -- What the processors claim.
   unfoldable pub cpus : Claimed
-  cpus = claimed 20 own processorBytes
+  cpus = claimed 20 only255 processorBytes
 
   cpus-twice : cpus .twice ≡ (among everyone (enabledIds processorType (baseEntries t)) || twice (enabledIds processorType (baseEntries t)))
   unfolding cpus enabledIds enabledOf putAll
   cpus-twice =
       let ids = enabledIds processorType (baseEntries t) in
-      rw (claimed-twice 20 own processorBytes (omega arith), ← h .processors)
+      rw (claimed-twice 20 only255 processorBytes (omega arith), ← h .processors)
       (twice-taken [] ids (below-ids processorType) ∙ ap (λ (x : Bool). x || among everyone ids || twice ids) (common-none ids))
 
   pub rule-14 : wrongProcessors t ≡ (not (eqb (localApic t % localApicStep) 0) || wrongBoot (rows 20 processorBytes) || cpus .twice)
@@ -128,17 +123,17 @@ module _ (t : List ℕ) (p : Sections) (h : Placed t p) where
 
   pub cpus-taken : cpus .twice ≡ false → cpus .taken ≡ takenSet t
   unfolding cpus enabledIds enabledOf takenSet
-  cpus-taken n = claimed-taken 20 own processorBytes (omega arith) n ∙ rw (← h .processors)
+  cpus-taken n = claimed-taken 20 only255 processorBytes (omega arith) n ∙ rw (← h .processors)
 
   pub cpus-all : cpus .twice ≡ false → cpus .all ≡ idSet processorType t
   unfolding cpus idSet idsOf
-  cpus-all n = claimed-all 20 own processorBytes (omega arith) n ∙ rw (← h .processors)
+  cpus-all n = claimed-all 20 only255 processorBytes (omega arith) n ∙ rw (← h .processors)
 
   -- ---- 15
 
   pub rule-15 : wrongBuses (baseEntries t) ≡ listed busBytes .wrong
   unfolding wrongBuses idsOf
-  rule-15 = sym (listed-wrong busBytes (bytes-part (p .buses) (p .apics)) ∙ rw (← h .buses))
+  rule-15 = sym (listed-wrong busBytes (bytes-part (p .buses) (p .ioapics)) ∙ rw (← h .buses))
 
   pub bus-ids : listed busBytes .wrong ≡ false → listed busBytes .ids ≡ idSet busType t
   unfolding idSet idsOf
@@ -156,20 +151,20 @@ module _ (t : List ℕ) (p : Sections) (h : Placed t p) where
       || twice (enabledIds ioApicType (baseEntries t)))
   unfolding ios enabledIds enabledOf takenSet
   ios-twice =
-      rw (claimed-twice 8 (takenSet t) apicBytes (omega arith), ← h .apics)
+      rw (claimed-twice 8 (takenSet t) apicBytes (omega arith), ← h .ioapics)
       (twice-taken (enabledIds processorType (baseEntries t)) (enabledIds ioApicType (baseEntries t)) (below-ids ioApicType))
 
   pub rule-16 : wrongIoApics (baseEntries t) ≡ (ios .twice || any misplaced (keep enabled (rows 8 apicBytes)))
   unfolding wrongIoApics enabledOf
   rule-16 =
       let ids = enabledIds ioApicType (baseEntries t) in
-      rw (ios-twice, ← h .apics)
+      rw (ios-twice, ← h .ioapics)
       (swapped (among everyone ids) (twice ids) (common ids (enabledIds processorType (baseEntries t)))
       (any misplaced (enabledOf ioApicType (baseEntries t))))
 
   pub ios-all : ios .twice ≡ false → ios .all ≡ idSet ioApicType t
   unfolding ios idSet idsOf
-  ios-all n = claimed-all 8 (takenSet t) apicBytes (omega arith) n ∙ rw (← h .apics)
+  ios-all n = claimed-all 8 (takenSet t) apicBytes (omega arith) n ∙ rw (← h .ioapics)
 
   -- ---- 17, with the sets of the listed buses, I/O APICs and processors
 
@@ -178,21 +173,21 @@ module _ (t : List ℕ) (p : Sections) (h : Placed t p) where
 
   pub rule-17 :
       wrongInterrupts (baseEntries t)
-      ≡ (any (wrongLine (idSet busType t) (idSet ioApicType t) 255) (rows 8 (part (p .interrupts) (p .locals) t))
-      || any (wrongLine (idSet busType t) (idSet processorType t) 1) (rows 8 (part (p .locals) (p .mappings) t)))
+      ≡ (any (wrongInterruptIn (idSet busType t) (idSet ioApicType t) 255) (rows 8 (part (p .interrupts) (p .locals) t))
+      || any (wrongInterruptIn (idSet busType t) (idSet processorType t) 1) (rows 8 (part (p .locals) (p .mappings) t)))
   unfolding wrongInterrupts wrongOnSide idSet
   rule-17 =
       let es = baseEntries t in
       let io = wrongInterrupt es ioApicType in
-      let own = wrongInterrupt es processorType in
+      let locally = wrongInterrupt es processorType in
       let ls = keep (ofType localInterruptType) es in
-      or-assoc (any io (keep (ofType ioInterruptType) es)) (any own ls) (any wrongInput ls)
+      or-assoc (any io (keep (ofType ioInterruptType) es)) (any locally ls) (any wrongInput ls)
       ∙ rw (
-        ← any-or own wrongInput ls,
+        ← any-or locally wrongInput ls,
         ← h .interrupts,
         ← h .locals,
-        any-same (wrongLine (idSet busType t) (idSet ioApicType t) 255) io (λ e c. wrong-line-io es ioApicType e c) (small-of ioInterruptType),
-        any-same (wrongLine (idSet busType t) (idSet processorType t) 1) (λ e. own e || wrongInput e) (λ e c. wrong-line-local es processorType e c) (small-of localInterruptType),
+        any-same (wrongInterruptIn (idSet busType t) (idSet ioApicType t) 255) io (λ e c. wrong-interrupt-io es ioApicType e c) (small-of ioInterruptType),
+        any-same (wrongInterruptIn (idSet busType t) (idSet processorType t) 1) (λ e. locally e || wrongInput e) (λ e c. wrong-interrupt-local es processorType e c) (small-of localInterruptType),
       )
 
   -- ---- 18
@@ -202,9 +197,9 @@ module _ (t : List ℕ) (p : Sections) (h : Placed t p) where
 
   pub rule-18 :
       wrongSpaces (baseEntries t) (extendedEntries t)
-      ≡ (any (wrongMap (idSet busType t)) (rows 20 (part (p .mappings) (p .links) t))
-      || any (wrongLink (idSet busType t)) (rows 8 (part (p .links) (p .modifiers) t))
-      || any (wrongMod (idSet busType t)) (rows 8 (part (p .modifiers) (p .others) t))
+      ≡ (any (wrongMappingIn (idSet busType t)) (rows 20 (part (p .mappings) (p .links) t))
+      || any (wrongHierarchyIn (idSet busType t)) (rows 8 (part (p .links) (p .modifiers) t))
+      || any (wrongModifierIn (idSet busType t)) (rows 8 (part (p .modifiers) (p .others) t))
       || wrongParents (rows 8 (part (p .links) (p .modifiers) t)))
   unfolding wrongSpaces links wrongParents idSet
   rule-18 =
@@ -215,9 +210,9 @@ module _ (t : List ℕ) (p : Sections) (h : Placed t p) where
         ← h .mappings,
         ← h .links,
         ← h .modifiers,
-        any-same (wrongMap (idSet busType t)) (wrongMapping es) (λ e c. wrong-map es e c) (small-more-of mappingType),
-        any-same (wrongLink (idSet busType t)) (wrongHierarchy es) (λ e c. wrong-link es e c) (small-more-of hierarchyType),
-        any-same (wrongMod (idSet busType t)) (wrongModifier es) (λ e c. wrong-mod es e c) (small-more-of modifierType),
+        any-same (wrongMappingIn (idSet busType t)) (wrongMapping es) (λ e c. wrong-mapping-in es e c) (small-more-of mappingType),
+        any-same (wrongHierarchyIn (idSet busType t)) (wrongHierarchy es) (λ e c. wrong-hierarchy-in es e c) (small-more-of hierarchyType),
+        any-same (wrongModifierIn (idSet busType t)) (wrongModifier es) (λ e c. wrong-modifier-in es e c) (small-more-of modifierType),
       )
       (or-assoc
       (any (wrongMapping es) (keep (ofType mappingType) xs) || any (wrongHierarchy es) ls || any (wrongModifier es) (keep (ofType modifierType) xs))

@@ -8,14 +8,15 @@ use lib.Dec.{eqb, ltb}
 use Rattle.mps.specs.Words.{first, among, each}
 use Rattle.mps.specs.Refusals.{_when_, refusal, extendedNumber}
 use Rattle.mps.specs.Layout.{Entry, entryCount, baseEntries, extendedEntries, baseEntryLength}
-use Rattle.mps.specs.Table.{entryFault, walkFrom, walkFault, wrongType, cutOrMiscounted, descendingType, wrongExtended, extendedFrom}
+use Rattle.mps.specs.Table.{wrongExtendedPart, entryFault, walkFrom, walkFault, wrongType, cutOrMiscounted, descendingType, wrongExtended, extendedFrom}
 use Rattle.mps.specs.Judge.{tableRules, tableRefusal}
 use Rattle.laws.proofs.Tests.{whether}
 use Rattle.laws.proofs.Refusals.{refusal-append}
-use Rattle.header.specs.Header.{baseRules, headerRules, headerRefusal, wrongExtendedPart}
-use Rattle.judge.specs.Stages.{walkRules, walkNumber, from14, from15, from16, from17, from18}
+use Rattle.header.specs.Header.{headerRules, headerRefusal}
+use Rattle.sections.specs.Runs.{baseFault}
+use Rattle.judge.specs.Stages.{walkRules, walkNumber, from14}
 
--- ---- The walk has one fault, and each of its rows asks whether it is its own
+-- ---- The walk has one fault, and each of its rows asks whether it is its only255
 
 -- A fault of the walk is none, 10, 11 or 12.
 pub data Fault : ℕ → Type 0 where
@@ -56,13 +57,13 @@ walk-rows right order = refl
 
 module _ (t : List ℕ) where
   walk-number : refusal (walkRules t) ≡ walkNumber t
-  unfolding walkNumber walkRules wrongType cutOrMiscounted descendingType walkFault
+  unfolding walkNumber baseFault baseEntries walkRules tableRules wrongType cutOrMiscounted descendingType walkFault
   walk-number = walk-rows (eqb (length (baseEntries t)) (entryCount t)) (walk-fault 0 (baseEntries t))
 
   -- ---- The stages
 
   pub stages : tableRefusal t ≡ first (headerRefusal t) (first (walkNumber t) (cond (wrongExtended t) extendedNumber (refusal (from14 t))))
-  unfolding tableRefusal tableRules headerRefusal headerRules baseRules walkRules from14 from15 from16 from17 from18 refusal among each
+  unfolding tableRefusal tableRules headerRefusal headerRules walkRules from14 refusal among each
   stages =
       let behind = extendedNumber when wrongExtended t ∷ from14 t in
       refusal-append (headerRules t) (walkRules t ++ behind) refl
@@ -70,5 +71,5 @@ module _ (t : List ℕ) where
 
   -- 13 is the header's part of it, or a faulty entry.
   pub extended-stages : wrongExtended t ≡ (wrongExtendedPart t || extendedFrom 0 (extendedEntries t))
-  unfolding wrongExtended wrongExtendedPart
+  unfolding wrongExtended
   extended-stages = refl

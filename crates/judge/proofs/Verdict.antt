@@ -6,16 +6,16 @@ use mathlib.Core.Bool.{Bool, true, false, cond, true≢false, or-true}
 use mathlib.Core.List.{List}
 use native.Mathlib.Omega.{arith}
 use lib.ListN.{take, drop}
-use Rattle.mps.specs.Words.{first}
 use Rattle.mps.specs.Refusals.{refusal, extendedNumber}
 use Rattle.mps.specs.Layout.{Entry, headerSize, processorType, mappingType, baseLength, extendedLength, entryCount, baseEntries, extendedEntries}
-use Rattle.mps.specs.Table.{walkFrom, walkFault, extendedFrom, wrongExtended}
+use Rattle.mps.specs.Table.{wrongExtendedPart, walkFrom, extendedFrom, wrongExtended}
 use Rattle.mps.specs.Sections.{span, baseAfter, extendedAfter, sections}
 use Rattle.mps.specs.Judge.{tableRefusal, examined}
 use Rattle.mps.specs.declared.Sections.{Sections}
-use Rattle.mps.specs.declared.Examined.the-variants.{Sound, Refused}
+use Rattle.mps.specs.declared.Examined.the-variants.{Accepted as Examined·Accepted, Refused}
+use Rattle.laws.proofs.Refusals.{first-some, first-none}
 use Rattle.laws.proofs.Small.{Bytes}
-use Rattle.header.specs.Header.{headerRefusal, wrongExtendedPart}
+use Rattle.header.specs.Header.{headerRefusal}
 use Rattle.header.proofs.Laws.{header-passed, extended-fits}
 use Rattle.sections.specs.declared.BaseSections.{BaseSections}
 use Rattle.sections.specs.declared.BaseSections.the-variants.{Ascending as Base·Ascending, Faulty as Base·Faulty}
@@ -25,16 +25,6 @@ use Rattle.sections.specs.Runs.{baseFault, baseAnswer, baseSections, extendedSe
 use Rattle.judge.specs.Stages.{walkNumber, from14, Walked, Ready}
 use Rattle.judge.proofs.Stages.{stages, extended-stages}
 use Rattle.judge.proofs.Accepted.{after-ascends, after-all, placed}
-
--- ---- first
-
-first-some : (a b : ℕ) → (a ≡ 0 → ⊥) → first a b ≡ a
-first-some zero b n = absurd (n refl)
-first-some (suc a) b n = refl
-
-first-none : (a b : ℕ) → first a b ≡ 0 → a ≡ 0
-first-none zero b e = refl
-first-none (suc a) b e = absurd (omega arith)
 
 -- ---- The answers of the walks, taken apart
 
@@ -94,9 +84,9 @@ unfolding examined
 refused-by t zero e z = absurd (z refl)
 refused-by t (suc n) e z = rw e
 
-sound-by : (t : List ℕ) {p : Sections} → tableRefusal t ≡ 0 → p ≡ sections t → Sound p ≡ examined t
+accepted-by : (t : List ℕ) {p : Sections} → tableRefusal t ≡ 0 → p ≡ sections t → Examined·Accepted p ≡ examined t
 unfolding examined
-sound-by t e q = rw (e, q)
+accepted-by t e q = rw (e, q)
 
 module _ (t : List ℕ) where
   -- ---- 5 to 9
@@ -109,7 +99,7 @@ module _ (t : List ℕ) where
   module _ {base count : ℕ} (b : base ≡ baseLength t) (k : count ≡ entryCount t) (h : headerRefusal t ≡ 0)
       {r : BaseSections} (e : r ≡ baseSections (take (base - headerSize) (drop headerSize t)) count) where
     walk-is : r ≡ baseAnswer (walkNumber t) (baseEntries t)
-    unfolding baseSections baseFault walkNumber walkFault baseEntries
+    unfolding baseSections walkNumber baseEntries
     walk-is = e ∙ rw (b, k)
 
     pub walk-refused : {n : ℕ} → r ≡ Base·Faulty n → Refused n ≡ examined t
@@ -121,7 +111,7 @@ module _ (t : List ℕ) where
     pub walk-passed : {x y z u : ℕ} → r ≡ Base·Ascending x y z u
         → Walked t (record {
           buses = headerSize + x;
-          apics = headerSize + y;
+          ioapics = headerSize + y;
           interrupts = headerSize + z;
           locals = headerSize + u;
           mappings = base;
@@ -137,7 +127,7 @@ module _ (t : List ℕ) where
           header = h;
           walk = f .0;
           buses = rw (f .1);
-          apics = rw (f .2);
+          ioapics = rw (f .2);
           interrupts = rw (f .3);
           locals = rw (f .4);
           mappings = b;
@@ -145,20 +135,20 @@ module _ (t : List ℕ) where
 
   -- Where it found no fault, its places lie before the base end.
   walk-clean : {p : Sections} → Walked t p → walkFrom 0 (baseEntries t) ≡ 0
-  unfolding walkNumber walkFault
-  walk-clean g = first-none (walkFrom 0 (baseEntries t)) _ (g .walk)
+  unfolding walkNumber baseFault baseEntries
+  walk-clean g = first-none (walkFrom 0 (baseEntries t)) _ (g .walk) .0
 
   pub walk-fits :
       {p : Sections} → Walked t p
-      → (p .buses ≤ baseLength t) × (p .apics ≤ baseLength t) × (p .interrupts ≤ baseLength t) × (p .locals ≤ baseLength t)
+      → (p .buses ≤ baseLength t) × (p .ioapics ≤ baseLength t) × (p .interrupts ≤ baseLength t) × (p .locals ≤ baseLength t)
   walk-fits {p} g =
       let h = header-passed t (g .header) in
       let a = after-ascends t (h .low) (h .inside) (walk-clean g) in
       let all = after-all t (h .low) (h .inside) (walk-clean g) in
       let l : p .locals ≤ baseLength t = omega (arith, a 4, all, g .locals) in
       let i : p .interrupts ≤ baseLength t = omega (arith, a 3, l, g .interrupts, g .locals) in
-      let o : p .apics ≤ baseLength t = omega (arith, a 2, i, g .apics, g .interrupts) in
-      (omega (arith, a 1, o, g .buses, g .apics), o, i, l)
+      let o : p .ioapics ≤ baseLength t = omega (arith, a 2, i, g .ioapics, g .interrupts) in
+      (omega (arith, a 1, o, g .buses, g .ioapics), o, i, l)
 
   -- ---- 13
 
@@ -189,7 +179,7 @@ module _ (t : List ℕ) where
         abbrev found : Sections
         found = record {
           buses = p .buses;
-          apics = p .apics;
+          ioapics = p .ioapics;
           interrupts = p .interrupts;
           locals = p .locals;
           mappings = base;
@@ -204,7 +194,7 @@ module _ (t : List ℕ) where
 
         found-places : found ≡ sections t
         unfolding sections extendedAfter
-        found-places = rw (g .buses, g .apics, g .interrupts, g .locals, q, l, known .1, known .2, known .3)
+        found-places = rw (g .buses, g .ioapics, g .interrupts, g .locals, q, l, known .1, known .2, known .3)
 
         pub more-passed : Bytes t → Ready t found
         more-passed bytes = record {
@@ -221,5 +211,5 @@ module _ (t : List ℕ) where
     pub rules-refused : (n ≡ 0 → ⊥) → Refused n ≡ examined t
     rules-refused z = refused-by t n (g .number ∙ sym e) z
 
-    pub rules-passed : n ≡ 0 → Sound p ≡ examined t
-    rules-passed z = sound-by t (g .number ∙ sym e ∙ z) (g .places)
+    pub rules-passed : n ≡ 0 → Examined·Accepted p ≡ examined t
+    rules-passed z = accepted-by t (g .number ∙ sym e ∙ z) (g .places)

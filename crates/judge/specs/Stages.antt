@@ -1,49 +1,47 @@
 -- The rows of the table of refusals as the judge comes to them: the header's (5 to 9), the walk's (10 to 12), the extended
--- part's (13), then one rule after the other. `tableRules` of mps is these, one behind the other (proofs/Stages.antt).
--- And the sets that the later rules are given.
+-- part's (13), then one rule after the other; the sets that the later rules are given; and what is known on the way.
 use Prim.Native.Nat.{ℕ}
 use mathlib.Core.Path.{_≡_}
-use mathlib.Core.Bool.{cond}
-use mathlib.Core.List.{List, [], _∷_}
-use lib.ListN.{length}
-use lib.Dec.{eqb}
+use mathlib.Core.List.{List}
+use lib.ListN.{take, drop}
 use Rattle.mps.specs.Words.{first}
-use Rattle.mps.specs.Refusals.{Rule, _when_, refusal, typeNumber, cutNumber, orderNumber}
-use Rattle.mps.specs.Layout.{processorType, everyone, baseLength, entryCount, baseEntries, extendedEntries}
-use Rattle.mps.specs.Table.{walkFault, wrongType, cutOrMiscounted, descendingType}
-use Rattle.mps.specs.Rules.{idsOf, enabledIds, wrongProcessors, wrongBuses, wrongIoApics, wrongInterrupts, wrongSpaces}
+use Rattle.mps.specs.Refusals.{Rule, refusal}
+use Rattle.mps.specs.Layout.{processorType, everyone, baseLength, basePart, entryCount, baseEntries}
+use Rattle.mps.specs.Rules.{idsOf, enabledIds}
 use Rattle.mps.specs.Sections.{baseAfter, sections}
-use Rattle.mps.specs.Judge.{tableRefusal}
+use Rattle.mps.specs.Judge.{tableRules, tableRefusal}
 use Rattle.mps.specs.declared.Sections.{Sections}
 use Rattle.header.specs.Header.{headerRefusal}
+use Rattle.sections.specs.Runs.{baseFault}
 use Rattle.sets.specs.declared.Numbers.{Numbers}
-use Rattle.sets.specs.Sets.{noNumbers, withNumber}
-use Rattle.sets.proofs.Laws.{putAll}
+use Rattle.sets.specs.Sets.{putAll, noNumbers, withNumber}
 use Rattle.judge.specs.Placed.{Placed}
 
 -- ---- The rows
 
+-- 10 to 12.
 unfoldable pub walkRules : List ℕ → List Rule
-walkRules t = typeNumber when wrongType t ∷ cutNumber when cutOrMiscounted t ∷ orderNumber when descendingType t ∷ []
+walkRules t = take 3 (drop 5 (tableRules t))
 
 -- Their number: that of the first faulty entry, and 11 where there is none and the count differs.
 unfoldable pub walkNumber : List ℕ → ℕ
-walkNumber t = first (walkFault t) (cond (eqb (length (baseEntries t)) (entryCount t)) 0 cutNumber)
+walkNumber t = baseFault (basePart t) (entryCount t)
 
-unfoldable pub from18 : List ℕ → List Rule
-from18 t = 18 when wrongSpaces (baseEntries t) (extendedEntries t) ∷ []
-
-unfoldable pub from17 : List ℕ → List Rule
-from17 t = 17 when wrongInterrupts (baseEntries t) ∷ from18 t
-
-unfoldable pub from16 : List ℕ → List Rule
-from16 t = 16 when wrongIoApics (baseEntries t) ∷ from17 t
+-- From a number on.
+unfoldable pub from14 : List ℕ → List Rule
+from14 t = drop 9 (tableRules t)
 
 unfoldable pub from15 : List ℕ → List Rule
-from15 t = 15 when wrongBuses (baseEntries t) ∷ from16 t
+from15 t = drop 1 (from14 t)
 
-unfoldable pub from14 : List ℕ → List Rule
-from14 t = 14 when wrongProcessors t ∷ from15 t
+unfoldable pub from16 : List ℕ → List Rule
+from16 t = drop 1 (from15 t)
+
+unfoldable pub from17 : List ℕ → List Rule
+from17 t = drop 1 (from16 t)
+
+unfoldable pub from18 : List ℕ → List Rule
+from18 t = drop 1 (from17 t)
 
 -- ---- The sets
 
@@ -52,12 +50,12 @@ unfoldable pub idSet : ℕ → List ℕ → Numbers
 idSet n t = putAll noNumbers (idsOf n (baseEntries t))
 
 -- The set that 255 alone is in: no enabled APIC may have it.
-unfoldable pub own : Numbers
-own = withNumber noNumbers everyone
+unfoldable pub only255 : Numbers
+only255 = withNumber noNumbers everyone
 
 -- The IDs that no enabled I/O APIC may have: 255, and those of enabled processors.
 unfoldable pub takenSet : List ℕ → Numbers
-takenSet t = putAll own (enabledIds processorType (baseEntries t))
+takenSet t = putAll only255 (enabledIds processorType (baseEntries t))
 
 -- ---- What is known on the way
 
@@ -66,7 +64,7 @@ pub record Walked (t : List ℕ) (p : Sections) : Type 0 where
   pub header : headerRefusal t ≡ 0
   pub walk : walkNumber t ≡ 0
   pub buses : p .buses ≡ baseAfter 1 t
-  pub apics : p .apics ≡ baseAfter 2 t
+  pub ioapics : p .ioapics ≡ baseAfter 2 t
   pub interrupts : p .interrupts ≡ baseAfter 3 t
   pub locals : p .locals ≡ baseAfter 4 t
   pub mappings : p .mappings ≡ baseLength t

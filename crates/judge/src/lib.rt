@@ -38,7 +38,7 @@ pub fn refusal(t: &[u8]) -> u8
 {
     let found = examine(t);
     match found {
-        Examined::Sound(p) => 0,
+        Examined::Accepted(p) => 0,
         Examined::Refused(n) => n,
     }
 }
@@ -57,14 +57,15 @@ pub fn examine(t: &[u8]) -> Examined
         BaseSections::Faulty(n) => Examined::Refused(n),
         BaseSections::Ascending {
             buses,
-            apics,
+            ioapics,
             interrupts,
             locals,
         } => behind_base(
             t,
+            // The places behind the base are not known yet.
             Sections {
                 buses: layout::HEADER_SIZE + buses,
-                apics: layout::HEADER_SIZE + apics,
+                ioapics: layout::HEADER_SIZE + ioapics,
                 interrupts: layout::HEADER_SIZE + interrupts,
                 locals: layout::HEADER_SIZE + locals,
                 mappings: base,
@@ -98,7 +99,7 @@ fn behind_base(t: &[u8], p: Sections) -> Examined
             t,
             Sections {
                 buses: p.buses,
-                apics: p.apics,
+                ioapics: p.ioapics,
                 interrupts: p.interrupts,
                 locals: p.locals,
                 mappings: base,
@@ -120,7 +121,7 @@ fn behind_walks(t: &[u8], p: Sections) -> Examined
     if number != 0 {
         return Examined::Refused(number);
     }
-    Examined::Sound(p)
+    Examined::Accepted(p)
 }
 
 // 14: the processors, and the local APIC address of the header. 255 is taken from the start: no enabled APIC may have it.
@@ -135,8 +136,12 @@ fn from_14(t: &[u8], p: Sections) -> u8
     if apics::wrong_boot(&t[layout::HEADER_SIZE..end]) {
         return 14;
     }
-    let own = sets::put(sets::empty(), layout::EVERYONE);
-    let cpus = apics::claim(&t[layout::HEADER_SIZE..end], layout::PROCESSOR_SIZE, own);
+    let only255 = sets::put(sets::empty(), layout::EVERYONE);
+    let cpus = apics::claim(
+        &t[layout::HEADER_SIZE..end],
+        layout::PROCESSOR_SIZE,
+        only255,
+    );
     if cpus.twice {
         return 14;
     }
@@ -150,7 +155,7 @@ fn from_15(t: &[u8], p: Sections, cpus: Numbers, taken: Numbers) -> u8
     ensures { λ r. ⌜ r ≡ refusalOf (from15 (now (t .entry))) ⌝ }
 {
     let start = p.buses;
-    let end = p.apics;
+    let end = p.ioapics;
     let listed = buses::list(&t[start..end]);
     if listed.wrong {
         return 15;
@@ -164,7 +169,7 @@ fn from_16(t: &[u8], p: Sections, buses: Numbers, cpus: Numbers, taken: Numbers)
     requires { ⌜ (buses ≡ idSet busType (now t)) × (cpus ≡ idSet processorType (now t)) × (taken ≡ takenSet (now t)) ⌝ }
     ensures { λ r. ⌜ r ≡ refusalOf (from16 (now (t .entry))) ⌝ }
 {
-    let start = p.apics;
+    let start = p.ioapics;
     let end = p.interrupts;
     let ios = apics::claim(&t[start..end], layout::ENTRY_SIZE, taken);
     if ios.twice {
@@ -177,15 +182,15 @@ fn from_16(t: &[u8], p: Sections, buses: Numbers, cpus: Numbers, taken: Numbers)
 }
 
 // 17: what the interrupt entries of both sides say, with the listed buses, I/O APICs and processors.
-fn from_17(t: &[u8], p: Sections, buses: Numbers, apics: Numbers, cpus: Numbers) -> u8
+fn from_17(t: &[u8], p: Sections, buses: Numbers, ioapics: Numbers, cpus: Numbers) -> u8
     requires { ⌜ Placed (now t) p ⌝ }
-    requires { ⌜ (buses ≡ idSet busType (now t)) × (apics ≡ idSet ioApicType (now t)) × (cpus ≡ idSet processorType (now t)) ⌝ }
+    requires { ⌜ (buses ≡ idSet busType (now t)) × (ioapics ≡ idSet ioApicType (now t)) × (cpus ≡ idSet processorType (now t)) ⌝ }
     ensures { λ r. ⌜ r ≡ refusalOf (from17 (now (t .entry))) ⌝ }
 {
     let start = p.interrupts;
     let locals = p.locals;
     let end = p.mappings;
-    if interrupts::wrong(&t[start..locals], buses, apics, 255) {
+    if interrupts::wrong(&t[start..locals], buses, ioapics, layout::INPUT_MOST) {
         return 17;
     }
     if interrupts::wrong(&t[locals..end], buses, cpus, layout::LOCAL_INPUT_MOST) {

@@ -22,6 +22,12 @@ part-part m n a b s h =
     let e : m + b - (m + a) ≡ b - a = omega arith in
     rw (e, drop-take a (n - m) (drop m s), drop-drop a m s) (take-take (b - a) (n - m - a) (drop (m + a) s) (omega arith))
 
+-- What is behind a place of a part.
+pub drop-part : (m n a : ℕ) (s : List ℕ) → drop a (part m n s) ≡ part (m + a) n s
+drop-part m n a s =
+    let e : n - (m + a) ≡ n - m - a = omega arith in
+    rw (e, drop-take a (n - m) (drop m s), drop-drop a m s)
+
 -- And so is a part of a row.
 pub row-part : (n : ℕ) (s : List ℕ) (at i j : ℕ) → j ≤ n → part i j (take n (drop at s)) ≡ part (at + i) (at + j) s
 row-part n s at i j h = let e : at + n - at ≡ n = omega arith in rw e at (part-part at (at + n) i j s (omega arith))

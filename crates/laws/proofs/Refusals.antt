@@ -18,6 +18,16 @@ number (n when b) = n
 abbrev pub so : Rule → Bool
 so (n when b) = b
 
+-- ---- The first number of two
+
+pub first-some : (a b : ℕ) → (a ≡ 0 → ⊥) → first a b ≡ a
+first-some zero b n = absurd (n refl)
+first-some (suc a) b n = refl
+
+pub first-none : (a b : ℕ) → first a b ≡ 0 → (a ≡ 0) × (b ≡ 0)
+first-none zero b e = (refl, e)
+first-none (suc a) b e = absurd (omega arith)
+
 -- ---- The first row
 
 pub refusal-stop : {b : Bool} (n : ℕ) (rows : List Rule) → b ≡ true → refusal (n when b ∷ rows) ≡ n

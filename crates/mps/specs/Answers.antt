@@ -10,7 +10,7 @@ use Rattle.mps.specs.declared.Judged.{Judged}
 use Rattle.mps.specs.declared.Judged.the-variants.{Accepted, Refused as Judged·Refused}
 use Rattle.mps.specs.declared.Sections.{Sections}
 use Rattle.mps.specs.declared.Examined.{Examined}
-use Rattle.mps.specs.declared.Examined.the-variants.{Sound, Refused as Examined·Refused}
+use Rattle.mps.specs.declared.Examined.the-variants.{Accepted as Examined·Accepted, Refused as Examined·Refused}
 use Rattle.mps.specs.declared.Held.{Held}
 use Rattle.mps.specs.declared.Held.the-variants.{Default, Table, Refused as Held·Refused}
 use Rattle.mps.specs.declared.Written.{Written}
@@ -32,8 +32,8 @@ judgedNumbers (Judged·Refused n) = n ∷ []
 
 -- The places in the order in which the sections stand.
 abbrev pub examinedNumbers : Examined → List ℕ
-examinedNumbers (Sound s) =
-    0 ∷ s .buses ∷ s .apics ∷ s .interrupts ∷ s .locals ∷ s .mappings ∷ s .links ∷ s .modifiers ∷ s .others ∷ s .end ∷ []
+examinedNumbers (Examined·Accepted s) =
+    0 ∷ s .buses ∷ s .ioapics ∷ s .interrupts ∷ s .locals ∷ s .mappings ∷ s .links ∷ s .modifiers ∷ s .others ∷ s .end ∷ []
 examinedNumbers (Examined·Refused n) = n ∷ []
 
 -- A default has two values and a table five.
@@ -75,7 +75,7 @@ judgedOf zero = Accepted
 judgedOf (suc n) = Judged·Refused (suc n)
 
 abbrev pub examinedOf : ℕ → Sections → Examined
-examinedOf zero places = Sound places
+examinedOf zero places = Examined·Accepted places
 examinedOf (suc n) places = Examined·Refused (suc n)
 
 abbrev pub heldOf : ℕ → Held → Held

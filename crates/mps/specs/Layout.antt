@@ -188,8 +188,14 @@ abbrev pub ofType : ℕ → Entry → Bool
 ofType n e = eqb (type e) n
 
 -- MPS Table 4-3: a processor entry has 20 bytes, every other base entry 8.
+abbrev pub processorSize : ℕ
+processorSize = 20
+
+abbrev pub entrySize : ℕ
+entrySize = 8
+
 unfoldable pub baseEntryLength : List ℕ → ℕ
-baseEntryLength s = cond (eqb (byte s 0) 0) 20 8
+baseEntryLength s = cond (eqb (byte s 0) 0) processorSize entrySize
 
 -- "length in byte 1"
 abbrev pub extendedEntryLength : List ℕ → ℕ
@@ -305,12 +311,19 @@ hierarchyType = 129
 abbrev pub modifierType : ℕ
 modifierType = 130
 
--- The lengths of Table 4-13; any other type has the length that its byte 1 says.
+-- MPS Table 4-13: a mapping has 20 bytes, a link and a modifier 8.
+abbrev pub mappingSize : ℕ
+mappingSize = 20
+
+abbrev pub linkSize : ℕ
+linkSize = 8
+
+-- These are their own lengths; any other type has the length that its byte 1 says.
 unfoldable pub ownLength : Entry → ℕ
 ownLength e =
-    cond (ofType mappingType e) 20
-    (cond (ofType hierarchyType e) 8
-    (cond (ofType modifierType e) 8 (extendedEntryLength e)))
+    cond (ofType mappingType e) mappingSize
+    (cond (ofType hierarchyType e) linkSize
+    (cond (ofType modifierType e) linkSize (extendedEntryLength e)))
 
 -- The bus of a 128, 129 or 130 entry.
 abbrev pub extendedBus : Entry → ℕ

@@ -31,7 +31,7 @@ extendedAfter k t = baseLength t + span mappingType k (extendedEntries t)
 unfoldable pub sections : List ℕ → Sections
 sections t = record {
   buses = baseAfter 1 t;
-  apics = baseAfter 2 t;
+  ioapics = baseAfter 2 t;
   interrupts = baseAfter 3 t;
   locals = baseAfter 4 t;
   mappings = baseLength t;

@@ -76,10 +76,13 @@ unfoldable pub extendedFrom : ℕ → List Entry → Bool
 extendedFrom before [] = false
 extendedFrom before (e ∷ es) = extendedFault before e || extendedFrom (type e) es
 
--- 13: "extended part over 4,096, past the region, wrong sum", or a faulty entry. "The extended bytes .. with byte 42, add to 0."
-unfoldable pub wrongExtended : List ℕ → Bool
-wrongExtended t =
+-- "extended part over 4,096, past the region, wrong sum". "The extended bytes .. with byte 42, add to 0."
+unfoldable pub wrongExtendedPart : List ℕ → Bool
+wrongExtendedPart t =
     ltb partMost (extendedLength t)
     || ltb (length t) (extendedEnd t)
     || not (eqb (sum256 (extendedChecksum t ∷ extendedPart t)) 0)
-    || extendedFrom 0 (extendedEntries t)
+
+-- 13: that, or a faulty entry.
+unfoldable pub wrongExtended : List ℕ → Bool
+wrongExtended t = wrongExtendedPart t || extendedFrom 0 (extendedEntries t)

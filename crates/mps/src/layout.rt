@@ -77,6 +77,9 @@ pub const RESERVED_MODE: u8 = 2;
 
 pub const EVERYONE: u8 = 255;
 
+// The highest input: any byte for an I/O interrupt, 1 for a local one.
+pub const INPUT_MOST: u8 = 255;
+
 pub const LOCAL_INPUT_MOST: u8 = 1;
 
 // ---- Extended entries, MPS Tables 4-13 to 4-16

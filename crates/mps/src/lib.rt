@@ -19,7 +19,7 @@ pub enum Judged {
 // extended types that are skipped by their length.
 pub struct Sections {
     pub buses: usize,
-    pub apics: usize,
+    pub ioapics: usize,
     pub interrupts: usize,
     pub locals: usize,
     pub mappings: usize,
@@ -31,7 +31,7 @@ pub struct Sections {
 
 // What the judge tells those who go on with a table: where its entries stand, or the number of the refusal.
 pub enum Examined {
-    Sound(Sections),
+    Accepted(Sections),
     Refused(u8),
 }
 

@@ -7,6 +7,7 @@ use mps::layout;
 ghost use mathlib.Core.Path.{_≡_};
 ghost use mathlib.Core.Bool.{false};
 ghost use Prim.Native.Nat.{_<_};
+ghost use Rattle.mps.specs.Layout.{linkSize};
 ghost use Rattle.mps.specs.Sections.{rows};
 ghost use Rattle.parents.specs.Parents.{wrongParents, Array, filled, clash, goesOn, cleared, endlessIn};
 
@@ -20,8 +21,8 @@ fn wide(x: u8) -> u16
 // Stores each link at its bus, as its parent plus 1; true at the first bus that has one already.
 fn fill(up: &mut [u16], s: &[u8]) -> bool
     requires { ⌜ Array (now up) ⌝ }
-    ensures { λ r. ⌜ r ≡ clash (now (up .entry)) (rows 8 (now (s .entry))) ⌝ }
-    ensures { λ r. ⌜ (r ≡ false → now (up .exit) ≡ filled (now (up .entry)) (rows 8 (now (s .entry)))) ⌝ }
+    ensures { λ r. ⌜ r ≡ clash (now (up .entry)) (rows linkSize (now (s .entry))) ⌝ }
+    ensures { λ r. ⌜ (r ≡ false → now (up .exit) ≡ filled (now (up .entry)) (rows linkSize (now (s .entry)))) ⌝ }
     ensures { λ _. ⌜ Array (now (up .exit)) ⌝ }
 {
     let mut at = 0;
@@ -76,7 +77,7 @@ fn clear(up: &mut [u16], bus: u8, links: usize)
 // Whether so many links can be climbed from the bus of some entry.
 fn endless(up: &mut [u16], s: &[u8], links: usize) -> bool
     requires { ⌜ Array (now up) ⌝ }
-    ensures { λ r. ⌜ r ≡ endlessIn links (now (up .entry)) (rows 8 (now (s .entry))) ⌝ }
+    ensures { λ r. ⌜ r ≡ endlessIn links (now (up .entry)) (rows linkSize (now (s .entry))) ⌝ }
 {
     let mut at = 0;
     while layout::LINK_SIZE <= s.len() - at {
@@ -90,7 +91,7 @@ fn endless(up: &mut [u16], s: &[u8], links: usize) -> bool
 }
 
 pub fn wrong(s: &[u8]) -> bool
-    ensures { λ r. ⌜ r ≡ wrongParents (rows 8 (now (s .entry))) ⌝ }
+    ensures { λ r. ⌜ r ≡ wrongParents (rows linkSize (now (s .entry))) ⌝ }
 {
     let mut up: [u16; 256] = [0; 256];
     if fill(&mut up, s) {

@@ -10,7 +10,7 @@ use Rattle.mps.specs.Buses.{busNames, isBusName}
 use Rattle.mps.specs.Ranges.{isa, vga, rangesAt, inList, printedIsa, printedVga}
 use Rattle.mps.specs.Dump.{regionsFrom, regions, kindRule, soundRegion, share, overlap, kindTwice, endsWithLast, soundDump, holds, holding}
 use Rattle.mps.specs.Pointer.{addressed, candidates, good, searched, pointers, pointer, isDefault, noPointer, wrongPointerRevision, wrongFeature, tableStart, tableEnd, tableIn}
-use Rattle.mps.specs.Table.{headerCut, wrongSignature, wrongBaseLength, wrongBaseSum, wrongRevision, entryFault, walkFrom, walkFault, wrongType, cutOrMiscounted, descendingType, extendedFault, extendedFrom, wrongExtended}
+use Rattle.mps.specs.Table.{headerCut, wrongSignature, wrongBaseLength, wrongBaseSum, wrongRevision, entryFault, walkFrom, walkFault, wrongType, cutOrMiscounted, descendingType, extendedFault, extendedFrom, wrongExtendedPart, wrongExtended}
 use Rattle.mps.specs.Rules.{enabledOf, idsOf, enabledIds, bootstraps, wrongProcessors, unknownName, wrongBuses, misplaced, wrongIoApics, isListed, wrongInterrupt, wrongInput, wrongOnSide, wrongInterrupts, wrongMapping, wrongHierarchy, wrongModifier, links, parentsOf, climbsTo, onCircle, circle, wrongSpaces}
 use Rattle.mps.specs.Sections.{rows, span, baseAfter, extendedAfter, sections}
 use Rattle.mps.specs.Judge.{tableRules, tableRefusal, pointerRules, dumpRules, dumpRefusal, judged, examined, told, held}
@@ -58,7 +58,7 @@ unfolding addressed candidates good searched pointers pointer isDefault noPointe
 ofPointer = 0
 
 ofTable : ℕ
-unfolding headerCut wrongSignature wrongBaseLength wrongBaseSum wrongRevision entryFault walkFrom walkFault wrongType cutOrMiscounted descendingType extendedFault extendedFrom wrongExtended
+unfolding headerCut wrongSignature wrongBaseLength wrongBaseSum wrongRevision entryFault walkFrom walkFault wrongType cutOrMiscounted descendingType extendedFault extendedFrom wrongExtendedPart wrongExtended
 ofTable = 0
 
 ofRules : ℕ

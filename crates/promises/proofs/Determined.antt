@@ -34,9 +34,9 @@ use Rattle.spaces.proofs.wrong_modifiers.Reads as wrong-modifiers
 use Rattle.sections.proofs.base.Reads as base-sections
 use Rattle.sections.proofs.extended.Reads as extended-sections
 use Rattle.judge.proofs.judge.Reads as judge
+use Rattle.judge.proofs.refusal.Reads as judge-refusal
 use Rattle.judge.proofs.examine.Reads as examine
 use Rattle.exports.proofs.ruxtajma_judge.Reads as ruxtajma-judge
-use Rattle.judge.proofs.refusal.Reads as judge-refusal
 
 -- A contract whose parameters are only read: at any arguments it allows one result.
 abbrev pub Answers : {K : Type 0} {A R S : K → Type 0} → ((κ : K) → A κ → R κ → S κ → Type 0) → Type 0
@@ -171,12 +171,10 @@ judge-determined κ a x y s t p q = p ∙ sym q
 pub examine-determined : Answers examine.Post
 examine-determined κ a x y s t p q = p ∙ sym q
 
+pub judge-refusal-determined : Answers judge-refusal.Post
+judge-refusal-determined κ a x y s t p q = p ∙ sym q
+
 -- ---- exports
 
 pub ruxtajma-judge-determined : Answers ruxtajma-judge.Post
 ruxtajma-judge-determined κ a x y s t p q = p ∙ sym q
-
--- ---- judge
-
-pub judge-refusal-determined : Answers judge-refusal.Post
-judge-refusal-determined κ a x y s t p q = p ∙ sym q

@@ -3,29 +3,30 @@
 -- compared only where no entry is faulty." Assumes nothing.
 use Prim.Native.Nat.{ℕ, zero, suc, _<_}
 use mathlib.Core.Path.{_≡_, refl, sym, ap, _∙_}
-use mathlib.Core.Bool.{false, not, or-false}
+use mathlib.Core.Bool.{true, false, not, _&&_, or-false}
 use mathlib.Core.List.{List, [], _∷_, _++_}
 use mathlib.Core.Logic.{_↔_}
 use native.Mathlib.Omega.{arith}
 use lib.ListN.{length, take, drop}
 use lib.Dec.{ltb, eqb}
-use borrow.Author.Tests.{ne-eqb}
-use Rattle.mps.specs.Words.{among, any, each, first}
+use borrow.Author.Tests.{eq-eqb, ne-eqb, eqb-true}
+use Rattle.mps.specs.Words.{among, any, each, first, head}
 use Rattle.mps.specs.Refusals.{Rule, _when_, refusal, typeNumber, cutNumber, orderNumber}
-use Rattle.mps.specs.Answers.{judgedOf}
+use Rattle.mps.specs.Answers.{judgedOf, judgedNumbers}
 use Rattle.mps.specs.Layout.{Entry, type, lastBaseType, baseEntryLength, entryCount, baseEntries}
-use Rattle.mps.specs.Table.{entryFault, walkFrom, walkFault, cutOrMiscounted}
+use Rattle.mps.specs.Table.{entryFault, walkFrom, walkFault, wrongType, cutOrMiscounted, descendingType}
 use Rattle.mps.specs.Judge.{tableRules, tableRefusal, judged}
 use Rattle.mps.specs.declared.Judged.{Judged}
 use Rattle.mps.specs.declared.Judged.the-variants.{Accepted, Refused}
-use Rattle.laws.proofs.Refusals.{so, given-exactly}
-use Rattle.promises.proofs.Given.{Exactly, given-none}
+use Rattle.laws.proofs.Tests.{either, and-parts}
+use Rattle.laws.proofs.Refusals.{so, given-exactly, first-some, first-none}
+use Rattle.promises.proofs.Given.{Exactly, given-none, given-10, given-11, given-12}
 
 -- ---- The answer and the number
 
+-- The paper's number of an answer, by the definition that gives it.
 numberOf : Judged → ℕ
-numberOf Accepted = 0
-numberOf (Refused n) = n
+numberOf r = head 0 (judgedNumbers r)
 
 number-of : (n : ℕ) → numberOf (judgedOf n) ≡ n
 unfolding numberOf
@@ -86,18 +87,10 @@ fault-decides :
     (before n : ℕ) (sound : List Entry) (entry : Entry) (behind : List Entry) → 0 < n
     → walkFrom before sound ≡ 0 → entryFault (lastType before sound) entry ≡ n → walkFrom before (sound ++ (entry ∷ behind)) ≡ n
 unfolding walkFrom lastType
-fault-decides before n [] entry behind p w f = rw f (first-some n (walkFrom (type entry) behind) p)
-  where
-    first-some : (a b : ℕ) → 0 < a → first a b ≡ a
-    first-some zero b q = absurd (omega (arith, q))
-    first-some (suc a) b q = refl
+fault-decides before n [] entry behind p w f = rw f (first-some n (walkFrom (type entry) behind) (λ z. omega (arith, p, z)))
 fault-decides before n (e ∷ sound) entry behind p w f =
-    let z = first-passed (entryFault before e) (walkFrom (type e) sound) w in
+    let z = first-none (entryFault before e) (walkFrom (type e) sound) w in
     rw (z .0) (fault-decides (type e) n sound entry behind p (z .1) f)
-  where
-    first-passed : (a b : ℕ) → first a b ≡ 0 → (a ≡ 0) × (b ≡ 0)
-    first-passed zero b q = (refl, q)
-    first-passed (suc a) b q = absurd (omega arith)
 
 -- The walk's number is that of the first faulty entry.
 pub first-faulty-decides : (t : List ℕ) (n : ℕ) → 0 < n → (walkFault t ≡ n) ↔ FirstFault 0 n (baseEntries t)
@@ -145,3 +138,49 @@ module _ (t : List ℕ) where
   pub count-passed-over : (walkFault t ≡ 0 → ⊥) → cutOrMiscounted t ≡ eqb (walkFault t) cutNumber
   unfolding cutOrMiscounted
   count-passed-over n = rw (ne-eqb (walkFault t) 0 n) (or-false (eqb (walkFault t) cutNumber))
+
+-- ---- 10 to 12 whole: 5 to 9 are passed, and the first faulty entry has that number
+
+module _ (t : List ℕ) where
+  -- Before 11 and 12 stand rows of the walk, which are not so where it has that fault.
+  before-11 : cutOrMiscounted t ≡ true → any so (take 6 (tableRules t)) ≡ any so (take 5 (tableRules t))
+  unfolding tableRules any wrongType cutOrMiscounted
+  before-11 c =
+      either (eqb (walkFault t) cutNumber) (eqb (walkFault t) 0 && not (eqb (length (baseEntries t)) (entryCount t))) c
+      (λ e. rw (eqb-true (walkFault t) cutNumber e))
+      (λ e. rw (eqb-true (walkFault t) 0 (and-parts (eqb (walkFault t) 0) _ e .0)))
+
+  before-12 : walkFault t ≡ orderNumber → any so (take 7 (tableRules t)) ≡ any so (take 5 (tableRules t))
+  unfolding tableRules any wrongType cutOrMiscounted
+  before-12 e = rw e
+
+  pub refused-10 : (judged t ≡ Refused typeNumber) ↔ ((any so (take 5 (tableRules t)) ≡ false) × FirstFault 0 typeNumber (baseEntries t))
+  unfolding wrongType
+  refused-10 =
+      let answer = refused-exactly t typeNumber (omega arith) in
+      let given = given-10 t in
+      let first = first-faulty-decides t typeNumber (omega arith) in (
+        λ e. let g = given .0 (answer .0 e) in (g .0, first .0 (eqb-true (walkFault t) typeNumber (g .1))),
+        λ g. answer .1 (given .1 (g .0, eq-eqb (walkFault t) typeNumber (first .1 (g .1)))),
+      )
+
+  -- 11 has two causes: see `first-faulty-decides` for the cut entry, and `count-compared` for the count.
+  pub refused-11 : (judged t ≡ Refused cutNumber) ↔ ((any so (take 5 (tableRules t)) ≡ false) × (cutOrMiscounted t ≡ true))
+  refused-11 =
+      let answer = refused-exactly t cutNumber (omega arith) in
+      let given = given-11 t in (
+        λ e. let g = given .0 (answer .0 e) in (sym (before-11 (g .1)) ∙ g .0, g .1),
+        λ g. answer .1 (given .1 (before-11 (g .1) ∙ g .0, g .1)),
+      )
+
+  pub refused-12 : (judged t ≡ Refused orderNumber) ↔ ((any so (take 5 (tableRules t)) ≡ false) × FirstFault 0 orderNumber (baseEntries t))
+  unfolding descendingType
+  refused-12 =
+      let answer = refused-exactly t orderNumber (omega arith) in
+      let given = given-12 t in
+      let first = first-faulty-decides t orderNumber (omega arith) in (
+        λ e. let g = given .0 (answer .0 e) in
+            let w = eqb-true (walkFault t) orderNumber (g .1) in
+            (sym (before-12 w) ∙ g .0, first .0 w),
+        λ g. let w = first .1 (g .1) in answer .1 (given .1 (before-12 w ∙ g .0, eq-eqb (walkFault t) orderNumber w)),
+      )

@@ -1,4 +1,5 @@
--- Laws of the base entries. Assumes nothing.
+-- The base entries: their walk as one of Walks.antt, one entry by itself, what the loops meet at a place, and what an
+-- accepted walk tells of every entry. Assumes nothing.
 use Prim.Native.Nat.{ℕ, zero, suc, _+_, _-_, _*_, _/_, _≤_, _<_}
 use mathlib.Core.Path.{_≡_, refl, ap, sym, _∙_}
 use mathlib.Core.Bool.{Bool, true, false, cond}
@@ -17,7 +18,7 @@ use Rattle.mps.specs.Sections.{span}
 use Rattle.laws.proofs.Tests.{and-parts}
 use Rattle.laws.proofs.Cut.{cut-next, cut-done}
 use Rattle.sections.specs.declared.BaseSections.the-variants.{Ascending, Faulty}
-use Rattle.sections.specs.Runs.{baseOnes, baseFault, baseSections, sizeOf, baseOwn, bytes, one, Ran}
+use Rattle.sections.specs.Runs.{baseEntriesIn, baseFault, baseSections, sizeOf, baseOwn, bytes, one, Ran}
 use Rattle.sections.proofs.Pieces.{size-some, first-there, every-cut}
 use Rattle.sections.proofs.Runs.{one-is, one-not, after, Upto, upto-next, upto-stop, Behind, behind-none, behind-next}
 use Rattle.sections.proofs.Walks.{fault, walk, walk-parts, walk-after, taken-span, every-walk, section-end}
@@ -116,29 +117,29 @@ module _ (s : List ℕ) (place : ℕ) where
 
   -- Behind all five types every entry is faulty, and the first decides.
   module _ (h : place < length s) where
-    walk-there : (n : ℕ) → entryFault 5 piece ≡ suc n → walkFrom 5 (baseOnes there) ≡ suc n
+    walk-there : (n : ℕ) → entryFault 5 piece ≡ suc n → walkFrom 5 (baseEntriesIn there) ≡ suc n
     unfolding walkFrom
     walk-there n e = rw (cut-next baseEntryLength s place (baseEntryLength there) h refl (rw length-there (size-some (getD s place 0))), e)
 
-    pub walk-some : walkFrom 5 (baseOnes there) ≡ 0 → ⊥
+    pub walk-some : walkFrom 5 (baseEntriesIn there) ≡ 0 → ⊥
     walk-some w =
         let n = baseEntryLength there in
         let c = cut-next baseEntryLength s place n h refl (rw length-there (size-some (getD s place 0))) in
-        let v = ap (λ (es : List Entry). walk baseOwn 11 5 es) (sym c) ∙ sym (base-walk 5 (baseOnes there)) ∙ w in
-        let p = walk-parts baseOwn 11 5 piece (baseOnes (drop (place + n) s)) v in
+        let v = ap (λ (es : List Entry). walk baseOwn 11 5 es) (sym c) ∙ sym (base-walk 5 (baseEntriesIn there)) ∙ w in
+        let p = walk-parts baseOwn 11 5 piece (baseEntriesIn (drop (place + n) s)) v in
         omega (arith, p .1, own-parts piece (p .0) .0)
 
-    pub fault-type : 4 < getD s place 0 → 10 ≡ walkFrom 5 (baseOnes there)
+    pub fault-type : 4 < getD s place 0 → 10 ≡ walkFrom 5 (baseEntriesIn there)
     unfolding entryFault
     fault-type k = sym (walk-there 9 (rw (type-piece, lt-ltb 4 (getD s place 0) k)))
 
-    pub fault-cut : getD s place 0 ≤ 4 → length s - place < sizeOf (getD s place 0) → 11 ≡ walkFrom 5 (baseOnes there)
+    pub fault-cut : getD s place 0 ≤ 4 → length s - place < sizeOf (getD s place 0) → 11 ≡ walkFrom 5 (baseEntriesIn there)
     unfolding entryFault
     fault-cut k l =
         let e : baseEntryLength piece ≡ sizeOf (getD s place 0) = length-by piece (getD s place 0) type-piece in
         sym (walk-there 10 (rw (e, type-piece, le-ltb 4 (getD s place 0) k, lt-ltb (length piece) (sizeOf (getD s place 0)) (omega (arith, l, length-piece)))))
 
-    pub fault-order : getD s place 0 ≤ 4 → sizeOf (getD s place 0) ≤ length s - place → 12 ≡ walkFrom 5 (baseOnes there)
+    pub fault-order : getD s place 0 ≤ 4 → sizeOf (getD s place 0) ≤ length s - place → 12 ≡ walkFrom 5 (baseEntriesIn there)
     unfolding entryFault
     fault-order k l =
         let e : baseEntryLength piece ≡ sizeOf (getD s place 0) = length-by piece (getD s place 0) type-piece in
@@ -171,7 +172,7 @@ pub exact-some : (e : Entry) → exact e ≡ true → 0 < length e
 exact-some e x = omega (arith, exact-length e x, length-some e)
 
 -- No piece is longer.
-pieces-fit : (s : List ℕ) → every (λ e. leb (length e) (baseEntryLength e)) (baseOnes s) ≡ true
+pieces-fit : (s : List ℕ) → every (λ e. leb (length e) (baseEntryLength e)) (baseEntriesIn s) ≡ true
 pieces-fit s = every-cut baseEntryLength (λ e. leb (length e) (baseEntryLength e)) fits 0 s
   where
     fits :
@@ -183,18 +184,18 @@ pieces-fit s = every-cut baseEntryLength (λ e. leb (length e) (baseEntryLength 
         let e : baseEntryLength (take n t) ≡ n = length-by (take n t) x (getD-take n t 0 0 (length-some t)) ∙ sym (length-by t x refl) in
         le-leb (length (take n t)) (baseEntryLength (take n t)) (omega (arith, e, length-take n t))
 
-module _ (s : List ℕ) (w : walkFrom 0 (baseOnes s) ≡ 0) where
-  pub base-accepted : walk baseOwn 11 0 (baseOnes s) ≡ 0
-  base-accepted = sym (base-walk 0 (baseOnes s)) ∙ w
+module _ (s : List ℕ) (w : walkFrom 0 (baseEntriesIn s) ≡ 0) where
+  pub base-accepted : walk baseOwn 11 0 (baseEntriesIn s) ≡ 0
+  base-accepted = sym (base-walk 0 (baseEntriesIn s)) ∙ w
 
-  pub every-exact : every exact (baseOnes s) ≡ true
+  pub every-exact : every exact (baseEntriesIn s) ≡ true
   unfolding exact
   every-exact =
       every-walk baseOwn 11 (λ e. leb (length e) (baseEntryLength e)) exact
       (λ e o q. eq-eqb (length e) (baseEntryLength e) (omega (arith, own-parts e o .1, leb-true (length e) (baseEntryLength e) q)))
-      0 (baseOnes s) base-accepted (pieces-fit s)
+      0 (baseEntriesIn s) base-accepted (pieces-fit s)
 
-  pub whole-end : (k : ℕ) → length s ≡ span 0 k (baseOnes s) + bytes (after baseOwn 0 k (baseOnes s))
+  pub whole-end : (k : ℕ) → length s ≡ span 0 k (baseEntriesIn s) + bytes (after baseOwn 0 k (baseEntriesIn s))
   whole-end = section-end baseOwn 11 baseEntryLength s 0 base-accepted exact exact-some every-exact
 
 -- ---- The number of entries
@@ -238,7 +239,7 @@ counted (e ∷ es) h =
 
 -- ---- `base`, from the places that its runs ended at
 
-pub record Placed (s : List ℕ) (buses apics interrupts locals end : ℕ) : Type 0 where
+pub record RunEnds (s : List ℕ) (buses apics interrupts locals end : ℕ) : Type 0 where
   pub one : Behind baseOwn baseEntryLength s 0 1 buses
   pub two : Behind baseOwn baseEntryLength s 0 2 apics
   pub three : Behind baseOwn baseEntryLength s 0 3 interrupts
@@ -246,11 +247,11 @@ pub record Placed (s : List ℕ) (buses apics interrupts locals end : ℕ) : Typ
   pub five : Behind baseOwn baseEntryLength s 0 5 end
 
 module _ (s : List ℕ) (buses apics interrupts locals end : ℕ) where
-  pub placed :
+  pub run-ends :
       Ran baseOwn 0 baseEntryLength s 0 buses → Ran baseOwn 1 baseEntryLength s buses apics
       → Ran baseOwn 2 baseEntryLength s apics interrupts → Ran baseOwn 3 baseEntryLength s interrupts locals
-      → Ran baseOwn 4 baseEntryLength s locals end → Placed s buses apics interrupts locals end
-  placed r1 r2 r3 r4 r5 =
+      → Ran baseOwn 4 baseEntryLength s locals end → RunEnds s buses apics interrupts locals end
+  run-ends r1 r2 r3 r4 r5 =
       let next = behind-next baseOwn baseEntryLength s 0 in
       let a = next 0 0 buses (behind-none baseOwn baseEntryLength s 0) r1 in
       let b = next 1 buses apics a r2 in
@@ -258,34 +259,34 @@ module _ (s : List ℕ) (buses apics interrupts locals end : ℕ) where
       let d = next 3 interrupts locals c r4 in
       record { one = a; two = b; three = c; four = d; five = next 4 locals end d r5 }
 
-module _ (s : List ℕ) (count buses apics interrupts locals end : ℕ) (at : Placed s buses apics interrupts locals end) where
-  walk-end : walkFrom 0 (baseOnes s) ≡ walkFrom 5 (baseOnes (drop end s))
+module _ (s : List ℕ) (count buses apics interrupts locals end : ℕ) (at : RunEnds s buses apics interrupts locals end) where
+  walk-end : walkFrom 0 (baseEntriesIn s) ≡ walkFrom 5 (baseEntriesIn (drop end s))
   walk-end =
-      base-walk 0 (baseOnes s)
-      ∙ walk-after baseOwn 11 0 5 (baseOnes s)
+      base-walk 0 (baseEntriesIn s)
+      ∙ walk-after baseOwn 11 0 5 (baseEntriesIn s)
       ∙ ap (λ (es : List Entry). walk baseOwn 11 5 es) (sym (at .five .entries))
-      ∙ sym (base-walk 5 (baseOnes (drop end s)))
+      ∙ sym (base-walk 5 (baseEntriesIn (drop end s)))
 
-  pub base-faulty : (x : ℕ) → end < length s → x ≡ walkFrom 5 (baseOnes (drop end s)) → Faulty x ≡ baseSections s count
+  pub base-faulty : (x : ℕ) → end < length s → x ≡ walkFrom 5 (baseEntriesIn (drop end s)) → Faulty x ≡ baseSections s count
   unfolding baseSections baseFault
   base-faulty zero h e = absurd (walk-some s end h (sym e))
   base-faulty (suc x) h e = rw (walk-end, ← e)
 
   module _ (h : length s ≤ end) where
-    walk-whole : walkFrom 0 (baseOnes s) ≡ 0
+    walk-whole : walkFrom 0 (baseEntriesIn s) ≡ 0
     unfolding walkFrom
     walk-whole = walk-end ∙ rw (cut-done baseEntryLength s end h)
 
-    place-span : (k place : ℕ) → Behind baseOwn baseEntryLength s 0 k place → place ≡ span 0 k (baseOnes s)
-    place-span k place b = b .place-is ∙ taken-span baseOwn 11 0 k (baseOnes s) (base-accepted s walk-whole)
+    place-span : (k place : ℕ) → Behind baseOwn baseEntryLength s 0 k place → place ≡ span 0 k (baseEntriesIn s)
+    place-span k place b = b .place-is ∙ taken-span baseOwn 11 0 k (baseEntriesIn s) (base-accepted s walk-whole)
 
-    count-is : length (baseOnes s) ≡ buses / 20 + (length s - buses) / 8
+    count-is : length (baseEntriesIn s) ≡ buses / 20 + (length s - buses) / 8
     unfolding span bytes after
     count-is =
-        let n = counted (baseOnes s) (every-exact s walk-whole) in
-        let b : buses ≡ bytes (keep (ofType 0) (baseOnes s)) = place-span 1 buses (at .one) ∙ zero-add (bytes (keep (ofType 0) (baseOnes s))) in
-        let l : length s ≡ bytes (baseOnes s) =
-        whole-end s walk-whole 0 ∙ zero-add (bytes (baseOnes s))
+        let n = counted (baseEntriesIn s) (every-exact s walk-whole) in
+        let b : buses ≡ bytes (keep (ofType 0) (baseEntriesIn s)) = place-span 1 buses (at .one) ∙ zero-add (bytes (keep (ofType 0) (baseEntriesIn s))) in
+        let l : length s ≡ bytes (baseEntriesIn s) =
+        whole-end s walk-whole 0 ∙ zero-add (bytes (baseEntriesIn s))
         in
         omega (arith, b, l, n .number, n .first-bytes, n .all-bytes)
 

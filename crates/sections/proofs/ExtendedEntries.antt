@@ -1,4 +1,5 @@
--- Laws of the extended entries. Assumes nothing.
+-- The extended entries: their walk as one of Walks.antt, one entry by itself, what the loops meet at a place, and what an
+-- accepted walk tells of every entry. Assumes nothing.
 use Prim.Native.Nat.{ℕ, zero, suc, _+_, _-_, _≤_, _<_}
 use mathlib.Core.Path.{_≡_, refl, ap, sym, _∙_}
 use mathlib.Core.Bool.{Bool, true, false, cond, not, _||_, _&&_, or-true}
@@ -14,7 +15,7 @@ use Rattle.mps.specs.Table.{extendedFault, extendedFrom}
 use Rattle.laws.proofs.Tests.{and-parts, or-parts, either, whether}
 use Rattle.laws.proofs.Cut.{cut-next, cut-done}
 use Rattle.sections.specs.declared.ExtendedSections.the-variants.{Ascending, Faulty}
-use Rattle.sections.specs.Runs.{extendedOnes, extendedSections, sizeOf, extendedOwn, Ran}
+use Rattle.sections.specs.Runs.{extendedEntriesIn, extendedSections, sizeOf, extendedOwn, Ran}
 use Rattle.sections.proofs.Pieces.{size-two, first-there, every-cut, cut-head}
 use Rattle.sections.proofs.Runs.{one-is, one-not, Upto, upto-next, upto-stop, Behind, behind-none, behind-next}
 use Rattle.sections.proofs.Walks.{fault, walk, walk-start, walk-after, taken-span, every-walk}
@@ -141,7 +142,7 @@ piece-short t h = List·getD-eq-default (piece t) 0 {n = 1} (omega (arith, h, le
 fits : Entry → Bool
 fits e = ltb (extendedEntryLength e) 2 || leb (length e) (extendedEntryLength e)
 
-pieces-fit : (s : List ℕ) → every fits (extendedOnes s) ≡ true
+pieces-fit : (s : List ℕ) → every fits (extendedEntriesIn s) ≡ true
 unfolding fits
 pieces-fit s = every-cut extendedEntryLength fits (λ x xs. fit (x ∷ xs)) 0 s
   where
@@ -231,7 +232,7 @@ module _ (s : List ℕ) (place : ℕ) where
   module _ (before : ℕ) where
     pub others-next :
         (size : ℕ) → 131 ≤ before → size ≡ getD s (place + 1) 0 → 2 ≤ size → size ≤ length s - place → before ≤ getD s place 0
-        → extendedFrom before (extendedOnes there) ≡ extendedFrom (getD s place 0) (extendedOnes (drop (place + size) s))
+        → extendedFrom before (extendedEntriesIn there) ≡ extendedFrom (getD s place 0) (extendedEntriesIn (drop (place + size) s))
     unfolding extendedFrom
     others-next size b e two h a =
         let t = type-there size (omega (arith, two)) in
@@ -242,7 +243,7 @@ module _ (s : List ℕ) (place : ℕ) where
 
     pub others-stop :
         place < length s → (2 ≤ getD s (place + 1) 0 → getD s (place + 1) 0 ≤ length s - place → before ≤ getD s place 0 → ⊥)
-        → extendedFrom before (extendedOnes there) ≡ true
+        → extendedFrom before (extendedEntriesIn there) ≡ true
     unfolding extendedFrom
     others-stop h ends =
         rw (cut-head extendedEntryLength there (omega (arith, h, length-drop place s)))
@@ -251,7 +252,7 @@ module _ (s : List ℕ) (place : ℕ) where
         let y = tells before p in
         absurd (ends (omega (arith, p .long, y .length-is)) (y .inside) (omega (arith, p .ascending, y .type-is)))))
 
-    pub others-end : place ≤ length s → length s - place < 2 → ltb place (length s) ≡ extendedFrom before (extendedOnes there)
+    pub others-end : place ≤ length s → length s - place < 2 → ltb place (length s) ≡ extendedFrom before (extendedEntriesIn there)
     unfolding extendedFrom
     others-end h l =
         whether (ltb place (length s))
@@ -284,12 +285,12 @@ exact-is e o h =
       eq-eqb (length e) (ownLength e) (omega (arith, l, f .whole, f .known)),
     )
 
-module _ (s : List ℕ) (w : extendedFrom 0 (extendedOnes s) ≡ false) where
-  pub extended-accepted : walk extendedOwn 0 128 (extendedOnes s) ≡ 0
-  extended-accepted = sym (walk-high (extendedOnes s)) ∙ sym (extended-walk 0 (extendedOnes s)) ∙ ap flag w
+module _ (s : List ℕ) (w : extendedFrom 0 (extendedEntriesIn s) ≡ false) where
+  pub extended-accepted : walk extendedOwn 0 128 (extendedEntriesIn s) ≡ 0
+  extended-accepted = sym (walk-high (extendedEntriesIn s)) ∙ sym (extended-walk 0 (extendedEntriesIn s)) ∙ ap flag w
 
-  pub every-exact : every exact (extendedOnes s) ≡ true
-  every-exact = every-walk extendedOwn 0 fits exact exact-is 128 (extendedOnes s) extended-accepted (pieces-fit s)
+  pub every-exact : every exact (extendedEntriesIn s) ≡ true
+  every-exact = every-walk extendedOwn 0 fits exact exact-is 128 (extendedEntriesIn s) extended-accepted (pieces-fit s)
 
 -- ---- `extended`, from the places that its runs ended at
 
@@ -306,16 +307,16 @@ module _
     three-behind : Behind extendedOwn extendedEntryLength s 128 3 others
     three-behind = behind-next extendedOwn extendedEntryLength s 128 2 modifiers others two-behind r3
 
-    walk-others : extendedFrom 0 (extendedOnes s) ≡ extendedFrom 131 (extendedOnes (drop others s))
+    walk-others : extendedFrom 0 (extendedEntriesIn s) ≡ extendedFrom 131 (extendedEntriesIn (drop others s))
     walk-others =
-        flag-same (extendedFrom 0 (extendedOnes s)) (extendedFrom 131 (extendedOnes (drop others s)))
-        (extended-walk 0 (extendedOnes s)
-        ∙ walk-high (extendedOnes s)
-        ∙ walk-after extendedOwn 0 128 3 (extendedOnes s)
+        flag-same (extendedFrom 0 (extendedEntriesIn s)) (extendedFrom 131 (extendedEntriesIn (drop others s)))
+        (extended-walk 0 (extendedEntriesIn s)
+        ∙ walk-high (extendedEntriesIn s)
+        ∙ walk-after extendedOwn 0 128 3 (extendedEntriesIn s)
         ∙ ap (λ (es : List Entry). walk extendedOwn 0 131 es) (sym (three-behind .entries))
-        ∙ sym (extended-walk 131 (extendedOnes (drop others s))))
+        ∙ sym (extended-walk 131 (extendedEntriesIn (drop others s))))
 
-    module _ (faulty : Bool) (e : faulty ≡ extendedFrom 131 (extendedOnes (drop others s))) where
+    module _ (faulty : Bool) (e : faulty ≡ extendedFrom 131 (extendedEntriesIn (drop others s))) where
       pub extended-faulty : faulty ≡ true → Faulty ≡ extendedSections s
       unfolding extendedSections
       extended-faulty h = rw (walk-others, ← e, h)
@@ -323,12 +324,12 @@ module _
       pub extended-sound : faulty ≡ false → Ascending links modifiers others ≡ extendedSections s
       unfolding extendedSections
       extended-sound h =
-          let w : walk extendedOwn 0 128 (extendedOnes s) ≡ 0 = extended-accepted s (walk-others ∙ sym e ∙ h) in
+          let w : walk extendedOwn 0 128 (extendedEntriesIn s) ≡ 0 = extended-accepted s (walk-others ∙ sym e ∙ h) in
           rw (
             walk-others,
             ← e,
             h,
-            one-behind .place-is ∙ taken-span extendedOwn 0 128 1 (extendedOnes s) w,
-            two-behind .place-is ∙ taken-span extendedOwn 0 128 2 (extendedOnes s) w,
-            three-behind .place-is ∙ taken-span extendedOwn 0 128 3 (extendedOnes s) w,
+            one-behind .place-is ∙ taken-span extendedOwn 0 128 1 (extendedEntriesIn s) w,
+            two-behind .place-is ∙ taken-span extendedOwn 0 128 2 (extendedEntriesIn s) w,
+            three-behind .place-is ∙ taken-span extendedOwn 0 128 3 (extendedEntriesIn s) w,
           )

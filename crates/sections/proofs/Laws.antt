@@ -10,7 +10,7 @@ use Rattle.mps.specs.Words.{keep, part}
 use Rattle.mps.specs.Layout.{Entry, ofType, baseEntryLength, extendedEntryLength}
 use Rattle.mps.specs.Table.{walkFrom, extendedFrom}
 use Rattle.mps.specs.Sections.{span, rows}
-use Rattle.sections.specs.Runs.{baseOnes, extendedOnes, sizeOf, baseOwn, extendedOwn}
+use Rattle.sections.specs.Runs.{baseEntriesIn, extendedEntriesIn, sizeOf, baseOwn, extendedOwn}
 use Rattle.sections.proofs.Pieces.{size-some}
 use Rattle.sections.proofs.Runs.{after}
 use Rattle.sections.proofs.Walks.{walk-after, section-rows, section-end}
@@ -24,39 +24,39 @@ span-ascends f k es = omega arith
 
 -- ---- The base, where no entry is faulty
 
-module _ (s : List ℕ) (w : walkFrom 0 (baseOnes s) ≡ 0) where
+module _ (s : List ℕ) (w : walkFrom 0 (baseEntriesIn s) ≡ 0) where
   -- The entries of a type are the rows of its section.
   pub base-rows :
-      (k : ℕ) → keep (ofType k) (baseOnes s) ≡ rows (sizeOf k) (part (span 0 k (baseOnes s)) (span 0 (suc k) (baseOnes s)) s)
+      (k : ℕ) → keep (ofType k) (baseEntriesIn s) ≡ rows (sizeOf k) (part (span 0 k (baseEntriesIn s)) (span 0 (suc k) (baseEntriesIn s)) s)
   base-rows k =
-      ap (λ (j : ℕ). keep (ofType j) (baseOnes s)) (sym (zero-add k))
+      ap (λ (j : ℕ). keep (ofType j) (baseEntriesIn s)) (sym (zero-add k))
       ∙ section-rows baseOwn 11 baseEntryLength s 0 (base.base-accepted s w) base.exact base.exact-some (base.every-exact s w)
       k (sizeOf k) (size-some k)
       (λ e t x. base.exact-length e x ∙ base.length-by e k (t ∙ zero-add k))
 
   -- The five sections are the whole.
-  pub base-end : span 0 5 (baseOnes s) ≡ length s
+  pub base-end : span 0 5 (baseEntriesIn s) ≡ length s
   base-end =
       let none =
-      base.behind-five (after baseOwn 0 5 (baseOnes s))
-      (sym (walk-after baseOwn 11 0 5 (baseOnes s)) ∙ base.base-accepted s w)
+      base.behind-five (after baseOwn 0 5 (baseEntriesIn s))
+      (sym (walk-after baseOwn 11 0 5 (baseEntriesIn s)) ∙ base.base-accepted s w)
       in
       omega (arith, base.whole-end s w 5, none)
 
 -- ---- The extended part, where no entry is faulty
 
-module _ (s : List ℕ) (w : extendedFrom 0 (extendedOnes s) ≡ false) where
+module _ (s : List ℕ) (w : extendedFrom 0 (extendedEntriesIn s) ≡ false) where
   pub extended-rows :
       (k : ℕ) → k < 3
-      → keep (ofType (128 + k)) (extendedOnes s)
-      ≡ rows (sizeOf k) (part (span 128 k (extendedOnes s)) (span 128 (suc k) (extendedOnes s)) s)
+      → keep (ofType (128 + k)) (extendedEntriesIn s)
+      ≡ rows (sizeOf k) (part (span 128 k (extendedEntriesIn s)) (span 128 (suc k) (extendedEntriesIn s)) s)
   extended-rows k h =
       section-rows extendedOwn 0 extendedEntryLength s 128 (extended.extended-accepted s w) extended.exact
       (λ e x. extended.exact-parts e x .0) (extended.every-exact s w) k (sizeOf k) (size-some k)
       (λ e t x. extended.exact-parts e x .1 ∙ extended.own-known e k h t)
 
   -- Behind the three sections there may be others.
-  pub extended-end : span 128 3 (extendedOnes s) ≤ length s
+  pub extended-end : span 128 3 (extendedEntriesIn s) ≤ length s
   extended-end =
       let whole =
       section-end extendedOwn 0 extendedEntryLength s 128 (extended.extended-accepted s w) extended.exact

@@ -4,3 +4,4 @@ pub mod Walks
 pub mod BaseEntries
 pub mod ExtendedEntries
 pub mod Laws
+pub mod Order

@@ -11,14 +11,11 @@ use borrow.Author.Tests.{eqb-true, eqb-false, eq-eqb, ne-eqb, ltb-true, ltb-fals
 use Rattle.mps.specs.Words.{first, keep, every, cut, part}
 use Rattle.mps.specs.Layout.{Entry, type, ofType}
 use Rattle.mps.specs.Sections.{span, rows}
+use Rattle.laws.proofs.Refusals.{first-none}
 use Rattle.laws.proofs.Tests.{and-parts, same-test}
 use Rattle.sections.specs.Runs.{bytes, one, lead, rest}
 use Rattle.sections.proofs.Pieces.{every-keep, glued, length-glued, rows-glued, glued-cut}
 use Rattle.sections.proofs.Runs.{one-parts, after, taken, keep-after, part-after, bytes-after}
-
-pub first-none : (a b : ℕ) → first a b ≡ 0 → (a ≡ 0) × (b ≡ 0)
-first-none zero b e = (refl, e)
-first-none (suc a) b e = absurd (omega arith)
 
 ltb-next : (a k : ℕ) → eqb a k ≡ false → ltb a k ≡ ltb a (suc k)
 ltb-next a k h =

@@ -9,7 +9,7 @@ use lib.Dec.{eqb}
 use Rattle.mps.specs.Words.{first, flag, each, cut}
 use Rattle.mps.specs.Sums.{total}
 use Rattle.mps.specs.Refusals.{cutNumber}
-use Rattle.mps.specs.Layout.{Entry, ofType, processorType, mappingType, baseEntryLength, extendedEntryLength}
+use Rattle.mps.specs.Layout.{Entry, ofType, processorSize, entrySize, processorType, mappingType, baseEntryLength, extendedEntryLength}
 use Rattle.mps.specs.Table.{entryFault, walkFrom, extendedFault, extendedFrom}
 use Rattle.mps.specs.Sections.{span}
 use Rattle.sections.specs.declared.BaseSections.{BaseSections}
@@ -20,34 +20,34 @@ use Rattle.sections.specs.declared.ExtendedSections.the-variants.{Ascend
 -- ---- The answers
 
 -- The entries of some base bytes, and of some extended bytes.
-abbrev pub baseOnes : List ℕ → List Entry
-baseOnes s = cut baseEntryLength 0 s
+abbrev pub baseEntriesIn : List ℕ → List Entry
+baseEntriesIn s = cut baseEntryLength 0 s
 
-abbrev pub extendedOnes : List ℕ → List Entry
-extendedOnes s = cut extendedEntryLength 0 s
+abbrev pub extendedEntriesIn : List ℕ → List Entry
+extendedEntriesIn s = cut extendedEntryLength 0 s
 
 -- The number of the first faulty entry; where there is none, 11 where "count differs after the walk", else 0.
 unfoldable pub baseFault : List ℕ → ℕ → ℕ
-baseFault s count = first (walkFrom 0 (baseOnes s)) (cond (eqb (length (baseOnes s)) count) 0 cutNumber)
+baseFault s count = first (walkFrom 0 (baseEntriesIn s)) (cond (eqb (length (baseEntriesIn s)) count) 0 cutNumber)
 
 abbrev pub baseAnswer : ℕ → List Entry → BaseSections
 baseAnswer zero es = Base·Ascending (span processorType 1 es) (span processorType 2 es) (span processorType 3 es) (span processorType 4 es)
 baseAnswer (suc n) es = Base·Faulty (suc n)
 
 unfoldable pub baseSections : List ℕ → ℕ → BaseSections
-baseSections s count = baseAnswer (baseFault s count) (baseOnes s)
+baseSections s count = baseAnswer (baseFault s count) (baseEntriesIn s)
 
 unfoldable pub extendedSections : List ℕ → ExtendedSections
 extendedSections s =
-    cond (extendedFrom 0 (extendedOnes s)) Extended·Faulty
-    (Extended·Ascending (span mappingType 1 (extendedOnes s)) (span mappingType 2 (extendedOnes s)) (span mappingType 3 (extendedOnes s)))
+    cond (extendedFrom 0 (extendedEntriesIn s)) Extended·Faulty
+    (Extended·Ascending (span mappingType 1 (extendedEntriesIn s)) (span mappingType 2 (extendedEntriesIn s)) (span mappingType 3 (extendedEntriesIn s)))
 
 -- ---- Runs: what the private functions answer
 
 -- The bytes that entries of a known type take: 20 those of the first type of a part, 8 those of each other. MPS Tables 4-3
 -- and 4-13.
 abbrev pub sizeOf : ℕ → ℕ
-sizeOf k = cond (eqb k 0) 20 8
+sizeOf k = cond (eqb k 0) processorSize entrySize
 
 -- The fault of an entry by itself, whatever stands before it; 0 where it has none.
 unfoldable pub baseOwn : Entry → ℕ

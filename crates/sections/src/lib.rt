@@ -2,7 +2,8 @@
 //
 // Promised: `base` answers `baseSections` and `extended` answers `extendedSections` of any bytes, in one pass. The
 // definitions stand in specs/Runs.antt, which cites mps for the rules and the places. What callers may use of an
-// accepted part, that its sections are whole entries of one type and nothing else, stands in proofs/Laws.antt.
+// accepted part stands in proofs/Laws.antt, that its sections are whole entries of one type and nothing else, and in
+// proofs/Order.antt, that one behind the other they are all entries.
 //
 // Types ascend, so the entries of one type follow each other. The code goes over these runs and compares no entry of a
 // known type with the one before: the first faulty entry is one that no run took.
@@ -15,8 +16,8 @@ ghost use Rattle.mps.specs.Table.{walkFrom, extendedFrom};
 ghost use Rattle.sections.specs.Runs.{
   baseSections,
   extendedSections,
-  baseOnes,
-  extendedOnes,
+  baseEntriesIn,
+  extendedEntriesIn,
   sizeOf,
   baseOwn,
   extendedOwn,
@@ -27,7 +28,7 @@ ghost use Rattle.sections.specs.Runs.{
 pub enum BaseSections {
     Ascending {
         buses: usize,
-        apics: usize,
+        ioapics: usize,
         interrupts: usize,
         locals: usize,
     },
@@ -44,7 +45,8 @@ pub enum ExtendedSections {
     Faulty,
 }
 
-// The bytes of an entry, by its type counted from the first of its part.
+// The bytes of an entry, by its type counted from the first of its part: mappings have as many as processors, and all
+// the others 8.
 fn size_of(kind: u8) -> usize
     ensures { λ r. ⌜ r ≡ sizeOf kind ⌝ }
 {
@@ -75,7 +77,7 @@ fn run(s: &[u8], at: usize, kind: u8) -> usize
 // The number of the entry at a place where no run goes on: behind all five types each entry is faulty.
 fn fault(s: &[u8], at: usize) -> u8
     requires { ⌜ at < length (now s) ⌝ }
-    ensures { λ r. ⌜ r ≡ walkFrom 5 (baseOnes (drop at (now (s .entry)))) ⌝ }
+    ensures { λ r. ⌜ r ≡ walkFrom 5 (baseEntriesIn (drop at (now (s .entry)))) ⌝ }
 {
     let kind = s[at];
     if layout::LOCAL_INTERRUPT_TYPE < kind {
@@ -92,8 +94,8 @@ pub fn base(s: &[u8], count: usize) -> BaseSections
     ensures { λ r. ⌜ r ≡ baseSections (now (s .entry)) count ⌝ }
 {
     let buses = run(s, 0, layout::PROCESSOR_TYPE);
-    let apics = run(s, buses, layout::BUS_TYPE);
-    let interrupts = run(s, apics, layout::IO_APIC_TYPE);
+    let ioapics = run(s, buses, layout::BUS_TYPE);
+    let interrupts = run(s, ioapics, layout::IO_APIC_TYPE);
     let locals = run(s, interrupts, layout::IO_INTERRUPT_TYPE);
     let end = run(s, locals, layout::LOCAL_INTERRUPT_TYPE);
     if end < s.len() {
@@ -105,7 +107,7 @@ pub fn base(s: &[u8], count: usize) -> BaseSections
     }
     BaseSections::Ascending {
         buses: buses,
-        apics: apics,
+        ioapics: ioapics,
         interrupts: interrupts,
         locals: locals,
     }
@@ -142,7 +144,7 @@ fn run_of(s: &[u8], at: usize, kind: u8) -> usize
 // Whether an entry is faulty among those from `at` on, which are behind the known types; a byte alone is one.
 fn others(s: &[u8], at: usize) -> bool
     requires { ⌜ at ≤ length (now s) ⌝ }
-    ensures { λ r. ⌜ r ≡ extendedFrom 131 (extendedOnes (drop at (now (s .entry)))) ⌝ }
+    ensures { λ r. ⌜ r ≡ extendedFrom 131 (extendedEntriesIn (drop at (now (s .entry)))) ⌝ }
 {
     let mut place = at;
     let mut before = layout::OTHER_TYPES;

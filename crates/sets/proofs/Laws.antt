@@ -1,23 +1,21 @@
 -- Laws of the sets of numbers. Crates above need those of `holds`, `putAll` and `twiceIn`, which say
 -- nothing of how a set is stored; the laws before them lead there. Assumes nothing.
-use Prim.Native.Nat.{ℕ, zero, suc, _+_, _*_, _/_, _%_, _^_, _≤_, _<_}
+use Prim.Native.Nat.{ℕ, zero, suc, _*_, _/_, _%_, _^_, _<_}
 use mathlib.Core.Path.{_≡_, refl, sym, _∙_}
 use mathlib.Core.Bool.{Bool, true, false, cond, _||_, or-false, or-assoc, or-comm}
 use mathlib.Core.List.{List, [], _∷_}
 use native.Mathlib.Omega.{arith}
-use native.Mathlib.Numerals.{add-one}
 use native.Mathlib.Nat.{one-mul}
 use lib.Bits.{bitOr}
 use lib.Dec.{eqb}
-use lib.ListN.{length, getD, drop, drop-of-length-le}
+use lib.ListN.{length, getD}
 use lib.Pow.{shl-exact}
-use lib.Seq.{drop-cons}
 use borrow.Author.Tests.{eq-eqb, ne-eqb, eqb-true, eqb-false}
 use Rattle.mps.specs.Words.{bit, among, twice, any}
 use Rattle.laws.proofs.Tests.{eqb-comm, or-swap, or-four}
 use Rattle.laws.proofs.Bits.{bit-none, bit-power, bit-or}
 use Rattle.sets.specs.declared.Numbers.{Numbers}
-use Rattle.sets.specs.Sets.{word, holds, noNumbers, alone, withNumber}
+use Rattle.sets.specs.Sets.{word, holds, noNumbers, alone, withNumber, putAll}
 
 -- ---- alone
 
@@ -84,10 +82,6 @@ holds-put s x y h =
 
 -- ---- putAll: a set with every number of a list
 
-unfoldable pub putAll : Numbers → List ℕ → Numbers
-putAll s [] = s
-putAll s (x ∷ xs) = putAll (withNumber s x) xs
-
 pub holds-all : (s : Numbers) (xs : List ℕ) (y : ℕ) → y < 256 → holds (putAll s xs) y ≡ (among y xs || holds s y)
 unfolding putAll among
 holds-all s [] y h = refl
@@ -113,20 +107,6 @@ module _ (s : Numbers) (x : ℕ) (xs : List ℕ) where
   pub in-next-cons : holds s x ≡ false → twiceIn s (x ∷ xs) ≡ twiceIn (withNumber s x) xs
   unfolding twiceIn
   in-next-cons e = rw (e, twiceIn)
-
--- The same for a loop over a slice, at index i.
-module _ (s : Numbers) (xs : List ℕ) (i : ℕ) where
-  pub in-done : length xs ≤ i → twiceIn s (drop i xs) ≡ false
-  unfolding twiceIn
-  in-done h = rw drop-of-length-le
-
-  pub in-stop : i < length xs → holds s (getD xs i 0) ≡ true → twiceIn s (drop i xs) ≡ true
-  in-stop h e = rw (drop-cons xs i 0 h) (in-stop-cons s (getD xs i 0) (drop (suc i) xs) e)
-
-  pub in-next :
-      i < length xs → holds s (getD xs i 0) ≡ false
-      → twiceIn s (drop i xs) ≡ twiceIn (withNumber s (getD xs i 0)) (drop (i + 1) xs)
-  in-next h e = rw (add-one i, drop-cons xs i 0 h) (in-next-cons s (getD xs i 0) (drop (suc i) xs) e)
 
 -- Every number of a list is one that a set can hold.
 abbrev pub Below256 : List ℕ → Type 0

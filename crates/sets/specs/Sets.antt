@@ -1,7 +1,7 @@
 -- Sets of the numbers 0 to 255, in four words of 64 bits: number x is bit x % 64 of word x / 64.
 use Prim.Native.Nat.{ℕ, _/_, _%_, _^_}
 use mathlib.Core.Bool.{Bool, cond}
-use mathlib.Core.List.{[], _∷_}
+use mathlib.Core.List.{List, [], _∷_}
 use lib.Bits.{bitOr}
 use lib.Dec.{eqb}
 use lib.ListN.{getD}
@@ -34,3 +34,8 @@ withNumber s x = record {
       ∷ bitOr (word s 3) (alone x 3)
       ∷ [];
 }
+
+-- A set with every number of a list.
+unfoldable pub putAll : Numbers → List ℕ → Numbers
+putAll s [] = s
+putAll s (x ∷ xs) = putAll (withNumber s x) xs

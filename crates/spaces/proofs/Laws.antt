@@ -1,4 +1,4 @@
--- Laws of `wrongMap`, `wrongLink` and `wrongMod`: at a place of a slice, and that they are the rules of mps. Assumes
+-- Laws of `wrongMappingIn`, `wrongHierarchyIn` and `wrongModifierIn`: at a place of a slice, and that they are the rules of mps. Assumes
 -- nothing.
 use Prim.Native.Nat.{ℕ, _+_, _-_, _%_, _^_, _<_}
 use mathlib.Core.Path.{_≡_}
@@ -15,9 +15,9 @@ use Rattle.mps.specs.Rules.{idsOf, isListed, wrongMapping, wrongHierarchy, wron
 use Rattle.laws.proofs.Tests.{and-parts, same-test}
 use Rattle.laws.proofs.Rows.{row-byte}
 use Rattle.sets.specs.declared.Numbers.{Numbers}
-use Rattle.sets.specs.Sets.{holds, noNumbers}
-use Rattle.sets.proofs.Laws.{putAll, holds-list}
-use Rattle.spaces.specs.Spaces.{wrongMap, wrongLink, wrongMod}
+use Rattle.sets.specs.Sets.{putAll, holds, noNumbers}
+use Rattle.sets.proofs.Laws.{holds-list}
+use Rattle.spaces.specs.Spaces.{wrongMappingIn, wrongHierarchyIn, wrongModifierIn}
 
 -- ---- At a place of a slice
 
@@ -45,19 +45,19 @@ module _ (buses : Numbers) (s : List ℕ) (at : ℕ) {b : Bool} (e : b ≡ holds
   pub map-at :
       {x y : ℕ} {p : Bool}
       → x ≡ le 8 (part at (at + 20) s) 4 → y ≡ le 8 (part at (at + 20) s) 12 → p ≡ ltb spaceEnd (x + y)
-      → (not b || ltb 2 (getD s (at + 3) 0) || p) ≡ wrongMap buses (take 20 (drop at s))
-  unfolding wrongMap
+      → (not b || ltb 2 (getD s (at + 3) 0) || p) ≡ wrongMappingIn buses (take 20 (drop at s))
+  unfolding wrongMappingIn
   map-at f g h =
       rw (e, h, f, g, width 20, row-byte 20 s at 2 (omega arith), row-byte 20 s at 3 (omega arith))
 
   pub link-at :
-      {p : Bool} → p ≡ holds buses (getD s (at + 4) 0) → (not b || not p) ≡ wrongLink buses (take 8 (drop at s))
-  unfolding wrongLink
+      {p : Bool} → p ≡ holds buses (getD s (at + 4) 0) → (not b || not p) ≡ wrongHierarchyIn buses (take 8 (drop at s))
+  unfolding wrongHierarchyIn
   link-at f = rw (e, f, row-byte 8 s at 2 (omega arith), row-byte 8 s at 4 (omega arith))
 
   pub mod-at :
-      {l : ℕ} → l ≡ le 4 (part at (at + 8) s) 4 → (not b || ltb 1 l) ≡ wrongMod buses (take 8 (drop at s))
-  unfolding wrongMod
+      {l : ℕ} → l ≡ le 4 (part at (at + 8) s) 4 → (not b || ltb 1 l) ≡ wrongModifierIn buses (take 8 (drop at s))
+  unfolding wrongModifierIn
   mod-at f = rw (e, f, width 8, row-byte 8 s at 2 (omega arith))
 
 -- ---- The rules of mps, of an entry whose bytes are bytes and the set of the listed buses
@@ -68,14 +68,14 @@ module _ (es : List Entry) (e : Entry) (bytes : (i : ℕ) → getD e i 0 < 256) 
   unfolding isListed
   bus-listed = holds-list (idsOf busType es) (extendedBus e) (bytes 2)
 
-  pub wrong-map : wrongMap (putAll noNumbers (idsOf busType es)) e ≡ wrongMapping es e
-  unfolding wrongMap wrongMapping
-  wrong-map = rw bus-listed
+  pub wrong-mapping-in : wrongMappingIn (putAll noNumbers (idsOf busType es)) e ≡ wrongMapping es e
+  unfolding wrongMappingIn wrongMapping
+  wrong-mapping-in = rw bus-listed
 
-  pub wrong-link : wrongLink (putAll noNumbers (idsOf busType es)) e ≡ wrongHierarchy es e
-  unfolding wrongLink wrongHierarchy isListed
-  wrong-link = rw (bus-listed, holds-list (idsOf busType es) (parentBus e) (bytes 4))
+  pub wrong-hierarchy-in : wrongHierarchyIn (putAll noNumbers (idsOf busType es)) e ≡ wrongHierarchy es e
+  unfolding wrongHierarchyIn wrongHierarchy isListed
+  wrong-hierarchy-in = rw (bus-listed, holds-list (idsOf busType es) (parentBus e) (bytes 4))
 
-  pub wrong-mod : wrongMod (putAll noNumbers (idsOf busType es)) e ≡ wrongModifier es e
-  unfolding wrongMod wrongModifier
-  wrong-mod = rw bus-listed
+  pub wrong-modifier-in : wrongModifierIn (putAll noNumbers (idsOf busType es)) e ≡ wrongModifier es e
+  unfolding wrongModifierIn wrongModifier
+  wrong-modifier-in = rw bus-listed

@@ -1,7 +1,7 @@
-// The extended entries of a table, each by itself: refusal 18, but for what it says of parents.
+// The extended entries of a table, each by itself: refusal 18, but for a second link of a bus and circles (crate parents).
 //
 // Promised: `wrong_mappings`, `wrong_links` and `wrong_modifiers` answer whether some 128, 129 or 130 entry is
-// `wrongMap`, `wrongLink` or `wrongMod`, of any bytes and any set of buses. The definitions stand in
+// `wrongMappingIn`, `wrongHierarchyIn` or `wrongModifierIn`, of any bytes and any set of buses. The definitions stand in
 // specs/Spaces.antt. With the set of the listed buses they are the rules of mps, entry by entry: proofs/Laws.antt.
 //
 // Each entry's tests are all made, by `|`: in a table that is accepted none of them is so, and nothing would be saved by
@@ -12,9 +12,9 @@ ghost use Prim.Native.Nat.{_+_, _≤_};
 ghost use lib.Dec.{ltb};
 ghost use lib.ListN.{length, take, drop};
 ghost use Rattle.mps.specs.Words.{any};
-ghost use Rattle.mps.specs.Layout.{spaceEnd};
+ghost use Rattle.mps.specs.Layout.{spaceEnd, mappingSize, linkSize};
 ghost use Rattle.mps.specs.Sections.{rows};
-ghost use Rattle.spaces.specs.Spaces.{wrongMap, wrongLink, wrongMod};
+ghost use Rattle.spaces.specs.Spaces.{wrongMappingIn, wrongHierarchyIn, wrongModifierIn};
 use mps::layout;
 use sets::Numbers;
 
@@ -28,8 +28,8 @@ fn past_end(base: u64, length: u64) -> bool
 }
 
 fn wrong_mapping(s: &[u8], at: usize, buses: Numbers) -> bool
-    requires { ⌜ at + 20 ≤ length (now s) ⌝ }
-    ensures { λ r. ⌜ r ≡ wrongMap buses (take 20 (drop at (now (s .entry)))) ⌝ }
+    requires { ⌜ at + mappingSize ≤ length (now s) ⌝ }
+    ensures { λ r. ⌜ r ≡ wrongMappingIn buses (take mappingSize (drop at (now (s .entry)))) ⌝ }
 {
     let e = &s[at..at + layout::MAPPING_SIZE];
     let base = numbers::le64(e, layout::SPACE_BASE);
@@ -41,7 +41,7 @@ fn wrong_mapping(s: &[u8], at: usize, buses: Numbers) -> bool
 
 // Whether some entry is wrong, of 128 entries of 20 bytes each, one behind the other.
 pub fn wrong_mappings(s: &[u8], buses: Numbers) -> bool
-    ensures { λ r. ⌜ r ≡ any (wrongMap buses) (rows 20 (now (s .entry))) ⌝ }
+    ensures { λ r. ⌜ r ≡ any (wrongMappingIn buses) (rows mappingSize (now (s .entry))) ⌝ }
 {
     let mut at = 0;
     while layout::MAPPING_SIZE <= s.len() - at {
@@ -54,8 +54,8 @@ pub fn wrong_mappings(s: &[u8], buses: Numbers) -> bool
 }
 
 fn wrong_link(s: &[u8], at: usize, buses: Numbers) -> bool
-    requires { ⌜ at + 8 ≤ length (now s) ⌝ }
-    ensures { λ r. ⌜ r ≡ wrongLink buses (take 8 (drop at (now (s .entry)))) ⌝ }
+    requires { ⌜ at + linkSize ≤ length (now s) ⌝ }
+    ensures { λ r. ⌜ r ≡ wrongHierarchyIn buses (take linkSize (drop at (now (s .entry)))) ⌝ }
 {
     !sets::contains(buses, s[at + layout::EXTENDED_BUS])
         | !sets::contains(buses, s[at + layout::PARENT_BUS])
@@ -63,7 +63,7 @@ fn wrong_link(s: &[u8], at: usize, buses: Numbers) -> bool
 
 // Whether some entry is wrong, of 129 entries of 8 bytes each, one behind the other.
 pub fn wrong_links(s: &[u8], buses: Numbers) -> bool
-    ensures { λ r. ⌜ r ≡ any (wrongLink buses) (rows 8 (now (s .entry))) ⌝ }
+    ensures { λ r. ⌜ r ≡ any (wrongHierarchyIn buses) (rows linkSize (now (s .entry))) ⌝ }
 {
     let mut at = 0;
     while layout::LINK_SIZE <= s.len() - at {
@@ -76,8 +76,8 @@ pub fn wrong_links(s: &[u8], buses: Numbers) -> bool
 }
 
 fn wrong_modifier(s: &[u8], at: usize, buses: Numbers) -> bool
-    requires { ⌜ at + 8 ≤ length (now s) ⌝ }
-    ensures { λ r. ⌜ r ≡ wrongMod buses (take 8 (drop at (now (s .entry)))) ⌝ }
+    requires { ⌜ at + linkSize ≤ length (now s) ⌝ }
+    ensures { λ r. ⌜ r ≡ wrongModifierIn buses (take linkSize (drop at (now (s .entry)))) ⌝ }
 {
     let e = &s[at..at + layout::LINK_SIZE];
     let list = numbers::le32(e, layout::RANGE_LIST);
@@ -86,7 +86,7 @@ fn wrong_modifier(s: &[u8], at: usize, buses: Numbers) -> bool
 
 // Whether some entry is wrong, of 130 entries of 8 bytes each, one behind the other.
 pub fn wrong_modifiers(s: &[u8], buses: Numbers) -> bool
-    ensures { λ r. ⌜ r ≡ any (wrongMod buses) (rows 8 (now (s .entry))) ⌝ }
+    ensures { λ r. ⌜ r ≡ any (wrongModifierIn buses) (rows linkSize (now (s .entry))) ⌝ }
 {
     let mut at = 0;
     while layout::LINK_SIZE <= s.len() - at {

@@ -5,12 +5,12 @@ use native.Mathlib.Omega.{arith}
 use lib.ListN.{length}
 use borrow.Author.Needs.{needs}
 use Rattle.laws.proofs.Rows.{Seeks, seeks-done, seeks-stop, seeks-next}
-use Rattle.interrupts.specs.Lines.{wrongLine}
+use Rattle.interrupts.specs.Interrupts.{wrongInterruptIn}
 use Rattle.interrupts.proofs.wrong.Statement.{statement}
 use Rattle.interrupts.proofs.wrong.Tie as tie
 
 abbrev Inv-loop : tie.InvT-loop
-Inv-loop s buses targets most at₀ at = Seeks (wrongLine buses targets most) 8 s at
+Inv-loop s buses targets most at₀ at = Seeks (wrongInterruptIn buses targets most) 8 s at
 
 abbrev μ-loop : tie.MeasureT-loop
 μ-loop s buses targets most at₀ at = length s - at

@@ -1,6 +1,6 @@
--- `line-at`, from what the two calls of `contains` ensure.
+-- `interrupt-at`, from what the two calls of `contains` ensure.
 use borrow.Author.Needs.{needs}
-use Rattle.interrupts.proofs.Laws.{line-at}
+use Rattle.interrupts.proofs.Laws.{interrupt-at}
 use Rattle.interrupts.proofs.wrong_one.Statement.{statement}
 use Rattle.interrupts.proofs.wrong_one.Tie as tie
 
@@ -43,7 +43,7 @@ shared-slice-read-result-2 c = search needs
 returns : tie.Need-returns
 returns c =
     let a = c .before .before .before .before .before .before .before .before .args in
-    line-at (a .buses) (a .targets) (a .most) (a .s .now) (a .at)
+    interrupt-at (a .buses) (a .targets) (a .most) (a .s .now) (a .at)
     (c .before .before .contains .ensures) (c .before .contains2 .ensures)
 
 pub wrong-one-spec : {M : Type 1} → statement M

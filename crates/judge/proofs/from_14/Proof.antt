@@ -2,7 +2,7 @@
 use mathlib.Core.Path.{_∙_}
 use native.Mathlib.Omega.{arith}
 use borrow.Author.Needs.{needs}
-use Rattle.judge.proofs.Ways.{own-is, by-local-apic, by-boot, by-processor, processor-ids, taken-ids, past-14}
+use Rattle.judge.proofs.Ways.{only255-is, by-local-apic, by-boot, by-processor, processor-ids, taken-ids, past-14}
 use Rattle.judge.proofs.from_14.Statement.{statement}
 use Rattle.judge.proofs.from_14.Tie as tie
 
@@ -50,7 +50,7 @@ returns-3 c =
     let h = c .before .before .before .before .before .before .before .before .before .before .before .pre in
     let x = c .before .before .before .before .before .before .before .before .before .le32 .ensures in
     let b = c .before .before .before .before .before .before .wrong-boot .ensures in
-    let o = own-is (c .before .before .before .before .empty .ensures) (c .before .before .before .put .ensures) in
+    let o = only255-is (c .before .before .before .before .empty .ensures) (c .before .before .before .put .ensures) in
     by-processor h x b o (c .before .claim .ensures) (c .if3 .taken)
 
 from-15-requires : tie.Need-from-15-requires
@@ -58,7 +58,7 @@ from-15-requires c κs =
     let h = c .before .before .before .before .before .before .before .before .before .before .before .pre in
     let x = c .before .before .before .before .before .before .before .before .before .le32 .ensures in
     let b = c .before .before .before .before .before .before .wrong-boot .ensures in
-    let o = own-is (c .before .before .before .before .empty .ensures) (c .before .before .before .put .ensures) in
+    let o = only255-is (c .before .before .before .before .empty .ensures) (c .before .before .before .put .ensures) in
     let e = c .before .claim .ensures in
     (h, (processor-ids h x b o e (c .if3 .left), taken-ids h x b o e (c .if3 .left)))
 
@@ -67,7 +67,7 @@ returns-4 c =
     let h = c .before .before .before .before .before .before .before .before .before .before .before .before .pre in
     let x = c .before .before .before .before .before .before .before .before .before .before .le32 .ensures in
     let b = c .before .before .before .before .before .before .before .wrong-boot .ensures in
-    let o = own-is (c .before .before .before .before .before .empty .ensures) (c .before .before .before .before .put .ensures) in
+    let o = only255-is (c .before .before .before .before .before .empty .ensures) (c .before .before .before .before .put .ensures) in
     c .from-15 .ensures ∙ past-14 h x b o (c .before .before .claim .ensures) (omega arith) (c .before .before .before .before .before .before .if2 .left) (c .before .if3 .left)
 
 pub from-14-spec : {M : Type 1} → statement M

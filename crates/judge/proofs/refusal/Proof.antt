@@ -1,6 +1,6 @@
 -- `refusal` meets its contract: the number of what `examine` answers.
 use borrow.Author.Needs.{needs}
-use Rattle.judge.proofs.Laws.{sound-number, refused-number}
+use Rattle.judge.proofs.Laws.{accepted-number, refused-number}
 use Rattle.judge.proofs.refusal.Statement.{statement}
 use Rattle.judge.proofs.refusal.Tie as tie
 
@@ -14,7 +14,7 @@ enum-known-found-2 : tie.Need-enum-known-found-2
 enum-known-found-2 c = search needs
 
 returns : tie.Need-returns
-returns c = sound-number _ (c .before .before .before .examine .ensures) (c .before .found .given .1)
+returns c = accepted-number _ (c .before .before .before .examine .ensures) (c .before .found .given .1)
 
 returns-2 : tie.Need-returns-2
 returns-2 c = refused-number _ (c .before .before .before .examine .ensures) (c .before .found2 .given .1)

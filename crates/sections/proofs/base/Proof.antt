@@ -1,6 +1,6 @@
 -- `base` meets its contract, by a law for each of its three answers, from what the five runs ensure.
 use native.Mathlib.Omega.{arith}
-use Rattle.sections.proofs.BaseEntries.{Placed, placed, base-faulty, base-miscounted, base-sound}
+use Rattle.sections.proofs.BaseEntries.{RunEnds, run-ends, base-faulty, base-miscounted, base-sound}
 use borrow.Author.Needs.{needs}
 use Rattle.sections.proofs.base.Statement.{statement}
 use Rattle.sections.proofs.base.Tie as tie
@@ -8,10 +8,10 @@ use Rattle.sections.proofs.base.Tie as tie
 -- What the five runs ensure, in one.
 places :
     (c : tie.After-run5)
-    → Placed (c .before .before .before .before .before .before .args .s .now) (c .before .before .before .before .run .result) (c .before .before .before .run2 .result)
+    → RunEnds (c .before .before .before .before .before .before .args .s .now) (c .before .before .before .before .run .result) (c .before .before .before .run2 .result)
     (c .before .before .run3 .result) (c .before .run4 .result) (c .run5 .result)
 places c =
-    placed _ _ _ _ _ _ (c .before .before .before .before .run .ensures) (c .before .before .before .run2 .ensures) (c .before .before .run3 .ensures)
+    run-ends _ _ _ _ _ _ (c .before .before .before .before .run .ensures) (c .before .before .before .run2 .ensures) (c .before .before .run3 .ensures)
     (c .before .run4 .ensures) (c .run5 .ensures)
 
 run-requires : tie.Need-run-requires

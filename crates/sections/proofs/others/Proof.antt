@@ -4,7 +4,7 @@ use mathlib.Core.Path.{_≡_, refl, sym, _∙_}
 use native.Mathlib.Omega.{arith}
 use lib.ListN.{length, drop}
 use Rattle.mps.specs.Table.{extendedFrom}
-use Rattle.sections.specs.Runs.{extendedOnes}
+use Rattle.sections.specs.Runs.{extendedEntriesIn}
 use Rattle.sections.proofs.ExtendedEntries.{others-next, others-stop, others-end}
 use borrow.Author.Needs.{needs}
 use Rattle.sections.proofs.others.Statement.{statement}
@@ -12,7 +12,7 @@ use Rattle.sections.proofs.others.Tie as tie
 
 abbrev Inv-loop : tie.InvT-loop
 Inv-loop s at place₀ before₀ place before =
-    (extendedFrom before (extendedOnes (drop place s)) ≡ extendedFrom 131 (extendedOnes (drop at s)))
+    (extendedFrom before (extendedEntriesIn (drop place s)) ≡ extendedFrom 131 (extendedEntriesIn (drop at s)))
     × (131 ≤ before)
     × (place ≤ length s)
 

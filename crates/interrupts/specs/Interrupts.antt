@@ -9,8 +9,8 @@ use Rattle.sets.specs.Sets.{holds}
 
 -- An entry whose interrupt type is over 3, whose polarity or trigger is the reserved one, whose bus is not in the set,
 -- whose destination is neither 255 nor in the set, or whose input is over `most`.
-unfoldable pub wrongLine : Numbers → Numbers → ℕ → Entry → Bool
-wrongLine buses targets most e =
+unfoldable pub wrongInterruptIn : Numbers → Numbers → ℕ → Entry → Bool
+wrongInterruptIn buses targets most e =
     ltb interruptTypeMost (interruptType e)
     || eqb (polarity e) reservedMode
     || eqb (trigger e) reservedMode
