@@ -10,13 +10,12 @@ use Rattle.mps.specs.Refusals.{_when_, refusal, extendedNumber}
 use Rattle.mps.specs.Layout.{Entry, entryCount, baseEntries, extendedEntries, baseEntryLength}
 use Rattle.mps.specs.Table.{wrongExtendedPart, entryFault, walkFrom, walkFault, wrongType, cutOrMiscounted, descendingType, wrongExtended, extendedFrom}
 use Rattle.mps.specs.Judge.{tableRules, tableRefusal}
-use Rattle.laws.proofs.Tests.{whether}
 use Rattle.laws.proofs.Refusals.{refusal-append}
 use Rattle.header.specs.Header.{headerRules, headerRefusal}
 use Rattle.sections.specs.Runs.{baseFault}
 use Rattle.judge.specs.Stages.{walkRules, walkNumber, from14}
 
--- ---- The walk has one fault, and each of its rows asks whether it is its only255
+-- ---- The walk has one fault, and each of its rows asks whether it is its own
 
 -- A fault of the walk is none, 10, 11 or 12.
 pub data Fault : ℕ → Type 0 where

@@ -4,7 +4,6 @@ use Prim.Native.Nat.{ℕ}
 use mathlib.Core.Path.{_≡_}
 use mathlib.Core.List.{List}
 use lib.ListN.{take, drop}
-use Rattle.mps.specs.Words.{first}
 use Rattle.mps.specs.Refusals.{Rule, refusal}
 use Rattle.mps.specs.Layout.{processorType, everyone, baseLength, basePart, entryCount, baseEntries}
 use Rattle.mps.specs.Rules.{idsOf, enabledIds}
