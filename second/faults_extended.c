@@ -192,12 +192,14 @@ static bool f13_below_known(struct rng *r, struct builder *b)
 {
     uint8_t type = (uint8_t)rng_range(r, 128, 130);
     uint8_t *e = pick(r, b, type, any);
-    uint8_t moved[22] = { 0 };
+    uint8_t moved[2 + 255] = { 0 };   /* another fault may have given it any length */
 
     if (e == NULL)
         return false;
     /* Move it behind a higher one. */
     size_t size = e[1], at = (size_t)(e - b->ext);
+    if (size > b->ext_len - at)
+        return false;
     moved[0] = (uint8_t)rng_range(r, 131, 255), moved[1] = 2;
     memcpy(moved + 2, e, size);
     memmove(b->ext + at, b->ext + at + size, b->ext_len - at - size);

@@ -13,7 +13,7 @@ use Rattle.mps.specs.Layout.{Entry, extendedBus, parentBus}
 use Rattle.mps.specs.Sections.{rows}
 use Rattle.mps.specs.Rules.{onBus, parentsOf, onCircle, circle}
 use Rattle.laws.proofs.Tests.{whether, or-parts, or-swap, or-four}
-use Rattle.laws.proofs.Rows.{rows-count}
+use Rattle.laws.proofs.Rows.{rows-short, rows-count}
 use Rattle.laws.proofs.Small.{Bytes, Small, small-none, small-more, small-rows}
 use Rattle.laws.proofs.Circle.{climbs, endless, parentsOf-here, parentsOf-skip, endless-circle, ends-free}
 use Rattle.parents.specs.Parents.{wrongParents, Array, store, filled, clash, goesOn, cleared, endlessIn}
@@ -230,7 +230,7 @@ module _ (ls : List Entry) where
       cases true f = sym f
       cases false f = sym f
 
--- ---- The two answers of `wrong`
+-- ---- The answers of `wrong`
 
 module _ (s : List ℕ) (bytes : Bytes s) (r : Bool) (e : r ≡ clash (blank 256) (rows 8 s)) where
   pub wrong-twice : r ≡ true → true ≡ wrongParents (rows 8 s)
@@ -246,3 +246,8 @@ module _ (s : List ℕ) (bytes : Bytes s) (r : Bool) (e : r ≡ clash (blank 256
       let l = small-rows 8 s bytes in
       let t = sym (clash-twice ls l) ∙ sym e ∙ f in
       rw (t, h, ← rows-count s) (endless-is ls up l a (rw u (told-filled ls l t)))
+
+-- Where there is no link nothing is wrong.
+pub wrong-none : (s : List ℕ) → length s < 8 → false ≡ wrongParents (rows 8 s)
+unfolding wrongParents twice each circle any
+wrong-none s h = rw (rows-short 8 s h)

@@ -93,6 +93,10 @@ fn endless(up: &mut [u16], s: &[u8], links: usize) -> bool
 pub fn wrong(s: &[u8]) -> bool
     ensures { λ r. ⌜ r ≡ wrongParents (rows linkSize (now (s .entry))) ⌝ }
 {
+    // Most tables have no link: for them no array is cleared.
+    if s.len() < layout::LINK_SIZE {
+        return false;
+    }
     let mut up: [u16; 256] = [0; 256];
     if fill(&mut up, s) {
         return true;

@@ -3,9 +3,12 @@ use mathlib.Core.Path.{_∙_}
 use native.Mathlib.Omega.{arith}
 use borrow.Author.Needs.{needs}
 use Rattle.parents.proofs.Laws.{blank-array}
-use Rattle.parents.proofs.Links.{wrong-twice, wrong-circle}
+use Rattle.parents.proofs.Links.{wrong-none, wrong-twice, wrong-circle}
 use Rattle.parents.proofs.wrong.Statement.{statement}
 use Rattle.parents.proofs.wrong.Tie as tie
+
+returns : tie.Need-returns
+returns c = wrong-none (c .before .before .args .s .now) (c .if1 .taken)
 
 slice-aggregate-fill : tie.Need-slice-aggregate-fill
 slice-aggregate-fill c = search needs
@@ -13,12 +16,12 @@ slice-aggregate-fill c = search needs
 fill-requires : tie.Need-fill-requires
 fill-requires c κs = blank-array
 
-returns : tie.Need-returns
-returns c =
-    let s = c .before .before .before .before .before .args .s .now in
-    let bytes = c .before .before .before .before .shared-slice-known .given in
+returns-2 : tie.Need-returns-2
+returns-2 c =
+    let s = c .before .before .before .before .before .before .args .s .now in
+    let bytes = c .before .before .before .before .before .shared-slice-known .given in
     let f = c .before .before .fill in
-    wrong-twice s (λ i. omega (arith, bytes i)) (f .result) (f .ensures .0) (c .if1 .taken)
+    wrong-twice s (λ i. omega (arith, bytes i)) (f .result) (f .ensures .0) (c .if2 .taken)
 
 slice-aggregate-endless : tie.Need-slice-aggregate-endless
 slice-aggregate-endless c = search needs
@@ -29,12 +32,12 @@ add-endless c = search needs
 endless-requires : tie.Need-endless-requires
 endless-requires c κs = search needs
 
-returns-2 : tie.Need-returns-2
-returns-2 c =
-    let s = c .before .before .before .before .before .before .before .before .args .s .now in
+returns-3 : tie.Need-returns-3
+returns-3 c =
+    let s = c .before .before .before .before .before .before .before .before .before .args .s .now in
     let f = c .before .before .before .before .before .fill in
-    let bytes = c .before .before .before .before .before .before .before .shared-slice-known .given in
-    let free = c .before .before .before .if1 .left in
+    let bytes = c .before .before .before .before .before .before .before .before .shared-slice-known .given in
+    let free = c .before .before .before .if2 .left in
     c .before .endless .ensures
     ∙ wrong-circle s (λ i. omega (arith, bytes i)) (f .result) (f .ensures .0) (f .last .0) _ free
     (f .ensures .1 .0 free) (f .ensures .1 .1) (omega arith)
@@ -43,10 +46,11 @@ pub wrong-spec : {M : Type 1} → statement M
 wrong-spec =
     tie.close
     (tie.spec
+    returns
     slice-aggregate-fill
     fill-requires
-    returns
+    returns-2
     slice-aggregate-endless
     add-endless
     endless-requires
-    returns-2)
+    returns-3)
