@@ -7,64 +7,11 @@ The last two lines are of bytes that the program makes itself; a vector is too s
 Run it in this folder: python3 vectors.py
 """
 import struct
+import sys
 
-CPU = bytes([0, 0, 0x10, 3, 0x12, 5, 0, 0]) + bytes(12)
-ISA = b"\x01\x00ISA   "
-IOAPIC = bytes([2, 2, 0x11, 1]) + struct.pack("<I", 0xFEC00000)
-INT = bytes([3, 0, 0, 0, 0, 1, 2, 1])
-LINT = bytes([4, 3, 0, 0, 0, 0, 255, 0])
-BOARD = [CPU, ISA, IOAPIC, INT, LINT]
-
-
-def cpu(id, flags):
-    return bytes([0, id, 0x10, flags]) + bytes(16)
-
-
-def bus(id, name=b"PCI   "):
-    return bytes([1, id]) + name
-
-
-def ioapic(id, flags=1, address=0xFEC00000):
-    return bytes([2, id, 0x11, flags]) + struct.pack("<I", address)
-
-
-def line(type, kind=0, flags=0, bus=0, irq=1, to=2, input=1):
-    return bytes([type, kind, flags, 0, bus, irq, to, input])
-
-
-def space(bus, kind, base, size):
-    return bytes([128, 20, bus, kind]) + struct.pack("<QQ", base, size)
-
-
-def link(bus, parent, bit=0):
-    return bytes([129, 8, bus, bit, parent, 0, 0, 0])
-
-
-def modifier(bus, bit, list):
-    return bytes([130, 8, bus, bit]) + struct.pack("<I", list)
-
-
-def mended(t, base):
-    """The base checksum for the first `base` bytes."""
-    t = bytearray(t)
-    t[7] = 0
-    t[7] = -sum(t[:base]) % 256
-    return bytes(t)
-
-
-def table(entries, extended=(), count=None, base=None, size=None, revision=4, apic=0xFEE00000, byte42=None):
-    """A table with lengths, count and sums worked out, but for those that are given."""
-    body, more = b"".join(entries), b"".join(extended)
-    base = 44 + len(body) if base is None else base
-    head = b"PCMP" + struct.pack("<HBB", base, revision, 0) + b" " * 20 + bytes(6)
-    head += struct.pack("<HIHBB", len(entries) if count is None else count, apic, len(more) if size is None else size,
-                        -sum(more) % 256 if byte42 is None else byte42, 0)
-    return mended(head + body, 44 + len(body)) + more
-
-
-def put(t, at, value):
-    return t[:at] + bytes([value]) + t[at + 1:]
-
+sys.dont_write_bytecode = True
+from parts import (BOARD, CPU, INT, IOAPIC, ISA, LINT, bus, cpu, ioapic, line, link, mended, modifier, put, space,
+                   table)
 
 board = table(BOARD)
 full = [CPU, ISA, IOAPIC] + [INT] * 502

@@ -5,8 +5,8 @@ use mathlib.Core.Bool.{Bool, true, false, cond, true≢false}
 use mathlib.Core.Logic.{_↔_}
 use mathlib.Core.List.{List, [], _∷_, _++_}
 use native.Mathlib.Omega.{arith}
-use lib.Dec.{eqb}
-use borrow.Author.Tests.{eqb-false}
+use lib.Dec.{eqb, leb}
+use borrow.Author.Tests.{eqb-false, leb-false}
 use Rattle.mps.specs.Words.{among, any, each, only, first}
 use Rattle.mps.specs.Refusals.{Rule, _when_, refusal}
 use Rattle.laws.proofs.Tests.{or-parts}
@@ -109,3 +109,12 @@ pub absent-only : (n : ℕ) (b : Bool) (rows : List Rule) → among n (each numb
 unfolding among each
 absent-only n true rows e = e
 absent-only n false rows e = refl
+
+-- The number is below what every row's number is below.
+pub refusal-below : (k : ℕ) (rows : List Rule) → 0 < k → any (λ (r : Rule). leb k (number r)) rows ≡ false → refusal rows < k
+unfolding refusal any
+refusal-below k [] p a = p
+refusal-below k (n when true ∷ rows) p a =
+    leb-false k n (or-parts (leb k n) (any (λ (r : Rule). leb k (number r)) rows) a .0)
+refusal-below k (n when false ∷ rows) p a =
+    refusal-below k rows p (or-parts (leb k n) (any (λ (r : Rule). leb k (number r)) rows) a .1)

@@ -6,14 +6,8 @@ use lib.ListN.{length, drop}
 use lib.Dec.{leb, ltb, eqb}
 use Rattle.mps.specs.Words.{part, keep, any, every, each, head, twice, within}
 use Rattle.mps.specs.Sums.{total}
+use Rattle.mps.specs.declared.Region.{Region}
 use Rattle.mps.specs.Layout.{dumpMost, regionsMost, regionStep, kilobyte, romStart, romEnd, memoryEnd, regionCount, rowLength, rowKind, rowBase, rowSize}
-
--- A region: its kind, its physical base, the offset of its body in the dump, and its length.
-pub record Region : Type 0 where
-  pub kind : ℕ
-  pub base : ℕ
-  pub offset : ℕ
-  pub size : ℕ
 
 -- Where a region ends: "base plus length", the sum of the numbers with no wrap at 2^32.
 abbrev pub endOf : Region → ℕ
@@ -99,10 +93,10 @@ soundDump d =
 unfoldable pub holds : ℕ → Region → Bool
 holds address r = leb (r .base) address && ltb address (endOf r)
 
--- What stands for a region where none is found: it holds no byte.
-abbrev pub noRegion : Region
-noRegion = record { kind = 0; base = 0; offset = 0; size = 0 }
+-- What stands for the region at an address where none holds it: a region of no byte there.
+abbrev pub noRegion : ℕ → Region
+noRegion address = record { kind = 0; base = address; offset = 0; size = 0 }
 
 -- "The list of regions is searched for the one that holds an address".
 unfoldable pub holding : ℕ → List Region → Region
-holding address rs = head noRegion (keep (holds address) rs)
+holding address rs = head (noRegion address) (keep (holds address) rs)

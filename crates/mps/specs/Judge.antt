@@ -2,16 +2,16 @@
 use Prim.Native.Nat.{ℕ}
 use mathlib.Core.Bool.{cond, not}
 use mathlib.Core.List.{List, [], _∷_, _++_}
-use Rattle.mps.specs.Words.{only, flag}
+use Rattle.mps.specs.Words.{only}
 use Rattle.mps.specs.Refusals.{Rule, _when_, refusal, baseNumber, typeNumber, cutNumber, orderNumber, extendedNumber}
-use Rattle.mps.specs.Layout.{baseEntries, extendedEntries, feature1, imcr}
+use Rattle.mps.specs.Layout.{baseEntries, extendedEntries, feature1}
 use Rattle.mps.specs.Answers.{judgedOf, examinedOf, heldOf}
 use Rattle.mps.specs.declared.Judged.{Judged}
 use Rattle.mps.specs.declared.Examined.{Examined}
 use Rattle.mps.specs.declared.Held.{Held}
 use Rattle.mps.specs.declared.Held.the-variants.{Default, Table}
 use Rattle.mps.specs.Dump.{soundDump}
-use Rattle.mps.specs.Pointer.{noPointer, wrongPointerRevision, wrongFeature, isDefault, pointer, pointerBytes, tableAddress, tableStart, tableEnd, tableIn}
+use Rattle.mps.specs.Pointer.{noPointer, wrongPointerRevision, wrongFeature, isDefault, imcrOf, pointer, pointerBytes, tableAddress, tableStart, tableEnd, tableIn}
 use Rattle.mps.specs.Table.{headerCut, wrongSignature, wrongBaseLength, wrongBaseSum, wrongRevision, wrongType, cutOrMiscounted, descendingType, wrongExtended}
 use Rattle.mps.specs.Rules.{wrongProcessors, wrongBuses, wrongIoApics, wrongInterrupts, wrongSpaces}
 use Rattle.mps.specs.Sections.{sections}
@@ -66,11 +66,15 @@ judged t = judgedOf (tableRefusal t)
 unfoldable pub examined : List ℕ → Examined
 examined t = examinedOf (tableRefusal t) (sections t)
 
--- What the pointer of an accepted dump has told: "default configuration n", or a table.
+-- What the pointer of a dump tells: "default configuration n", or a table.
 unfoldable pub told : List ℕ → Held
 told d =
-    cond (isDefault d) (Default (feature1 (pointerBytes d)) (flag (imcr (pointerBytes d))))
-    (Table (pointer d .address) (flag (imcr (pointerBytes d))) (tableAddress d) (tableStart d) (tableEnd d))
+    cond (isDefault d) (Default (feature1 (pointerBytes d)) (imcrOf d))
+    (Table (pointer d .address) (imcrOf d) (tableAddress d) (tableStart d) (tableEnd d))
+
+-- The pointer's answer, before any table is judged: 1 to 4, or what it tells.
+unfoldable pub pointed : List ℕ → Held
+pointed d = heldOf (refusal (pointerRules d)) (told d)
 
 -- The dump reader's answer.
 unfoldable pub held : List ℕ → Held

@@ -7,11 +7,11 @@ use lib.Dec.{ltb, eqb}
 use Rattle.mps.specs.Words.{text, flag, keep, joined, put}
 use Rattle.mps.specs.Refusals.{_when_, refusal, roomNumber}
 use Rattle.mps.specs.Layout.{Entry, type, ofType, processorType, busType, ioApicType, ioInterruptType, mappingType, hierarchyType, modifierType}
-use Rattle.mps.specs.Layout.{feature1, imcr, baseLength, extendedLength, entryCount, baseEntries, extendedEntries, extendedEntryLength}
+use Rattle.mps.specs.Layout.{feature1, baseLength, extendedLength, entryCount, baseEntries, extendedEntries, extendedEntryLength}
 use Rattle.mps.specs.Layout.{idOf, version, enabled, bootstrap, nameOf, addressOf}
 use Rattle.mps.specs.Layout.{interruptType, sourceBus, sourceIrq, polarity, trigger, destination, input}
 use Rattle.mps.specs.Layout.{extendedBus, spaceKind, spaceBase, spaceLength, parentBus, subtractiveBit, takesBit, rangeList}
-use Rattle.mps.specs.Pointer.{pointer, pointerBytes, isDefault, tableAddress, tableIn}
+use Rattle.mps.specs.Pointer.{pointer, pointerBytes, isDefault, imcrOf, tableAddress, tableIn}
 use Rattle.mps.specs.Judge.{dumpRules, dumpRefusal}
 use Rattle.mps.specs.Answers.{writtenOf}
 use Rattle.mps.specs.declared.Written.{Written}
@@ -143,21 +143,20 @@ extendedLine e =
 -- ---- The whole
 
 -- "`default n imcr b`": the only line.
-unfoldable pub defaultLine : List ℕ → List ℕ
+unfoldable pub defaultLine : ℕ → ℕ → List ℕ
 unfolding text
-defaultLine p = line (text "default") (decimal (feature1 p) ∷ text "imcr" ∷ decimal (flag (imcr p)) ∷ [])
+defaultLine n b = line (text "default") (decimal n ∷ text "imcr" ∷ decimal b ∷ [])
 
 -- `pointer 000F0000 imcr 0`: where it stands, and its IMCR bit.
-unfoldable pub pointerLine : ℕ → List ℕ → List ℕ
+unfoldable pub pointerLine : ℕ → ℕ → List ℕ
 unfolding text
-pointerLine address p = line (text "pointer") (hex 8 address ∷ text "imcr" ∷ decimal (flag (imcr p)) ∷ [])
+pointerLine address b = line (text "pointer") (hex 8 address ∷ text "imcr" ∷ decimal b ∷ [])
 
 -- "The table line has address, base length, extended length and count".
-unfoldable pub tableLine : ℕ → List ℕ → List ℕ
+unfoldable pub tableLine : ℕ → ℕ → ℕ → ℕ → List ℕ
 unfolding text
-tableLine address t =
-    line (text "table")
-    (hex 8 address ∷ decimal (baseLength t) ∷ decimal (extendedLength t) ∷ decimal (entryCount t) ∷ [])
+tableLine address base extended count =
+    line (text "table") (hex 8 address ∷ decimal base ∷ decimal extended ∷ decimal count ∷ [])
 
 -- `end`
 unfoldable pub endLine : List ℕ
@@ -167,13 +166,14 @@ endLine = line (text "end") []
 -- "entries follow in table order"
 unfoldable pub tableLines : ℕ → List ℕ → List ℕ
 tableLines address t =
-    tableLine address t ++ (joined baseLine (baseEntries t) ++ (joined extendedLine (extendedEntries t) ++ endLine))
+    tableLine address (baseLength t) (extendedLength t) (entryCount t)
+    ++ (joined baseLine (baseEntries t) ++ (joined extendedLine (extendedEntries t) ++ endLine))
 
 -- The listing of an accepted dump.
 unfoldable pub listing : List ℕ → List ℕ
 listing d =
-    cond (isDefault d) (defaultLine (pointerBytes d))
-    (pointerLine (pointer d .address) (pointerBytes d) ++ tableLines (tableAddress d) (tableIn d))
+    cond (isDefault d) (defaultLine (feature1 (pointerBytes d)) (imcrOf d))
+    (pointerLine (pointer d .address) (imcrOf d) ++ tableLines (tableAddress d) (tableIn d))
 
 -- "`refused n`": the listing program's line; the listing itself returns the number.
 unfoldable pub refusedLine : ℕ → List ℕ
@@ -196,3 +196,14 @@ listed d room = writtenOf (listRefusal d room) (length (listing d))
 -- What the call leaves in its room: nothing new at a refusal.
 unfoldable pub listLeft : List ℕ → List ℕ → List ℕ
 listLeft d room = cond (eqb (listRefusal d room) 0) (put (listing d) room) room
+
+-- ---- The listing program's call: the same for all that it writes, so that only a room too small is refused
+
+unfoldable pub printRefusal : List ℕ → List ℕ → ℕ
+printRefusal d room = refusal (roomNumber when ltb (length room) (length (programOutput d)) ∷ [])
+
+unfoldable pub printed : List ℕ → List ℕ → Written
+printed d room = writtenOf (printRefusal d room) (length (programOutput d))
+
+unfoldable pub printLeft : List ℕ → List ℕ → List ℕ
+printLeft d room = cond (eqb (printRefusal d room) 0) (put (programOutput d) room) room

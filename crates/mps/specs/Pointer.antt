@@ -4,10 +4,11 @@ use mathlib.Core.Bool.{Bool, not, _||_, _&&_}
 use mathlib.Core.List.{List, [], _∷_, _++_}
 use lib.ListN.{length}
 use lib.Dec.{ltb, eqb}
-use Rattle.mps.specs.Words.{text, same, part, cut, only, keep, any, none, head, joined}
+use Rattle.mps.specs.Words.{text, flag, same, part, cut, only, keep, any, none, head, joined}
 use Rattle.mps.specs.Sums.{sum256}
-use Rattle.mps.specs.Layout.{knownRevision, defaultMost, oneParagraph, pointerSize, pointerSignature, pointerTable, pointerParagraphs, pointerRevision, feature1}
-use Rattle.mps.specs.Dump.{Region, regions, body, ofKind, holding}
+use Rattle.mps.specs.Layout.{knownRevision, defaultMost, oneParagraph, pointerSize, pointerSignature, pointerTable, pointerParagraphs, pointerRevision, feature1, imcr}
+use Rattle.mps.specs.Dump.{regions, body, ofKind, holding}
+use Rattle.mps.specs.declared.Region.{Region}
 
 -- Sixteen bytes that may be a pointer, and their address.
 pub record Candidate : Type 0 where
@@ -27,13 +28,16 @@ unfoldable pub candidates : List ℕ → Region → List Candidate
 candidates d r = addressed (r .base) (cut sixteen 0 (body d r))
 
 -- "A candidate with a wrong signature, length or sum is passed over." The revision is no part of this.
-unfoldable pub good : Candidate → Bool
+unfoldable pub good : List ℕ → Bool
 unfolding text
-good c =
-    eqb (length (c .bytes)) pointerSize
-    && same (pointerSignature (c .bytes)) (text "_MP_")
-    && eqb (pointerParagraphs (c .bytes)) oneParagraph
-    && eqb (sum256 (c .bytes)) 0
+good p =
+    eqb (length p) pointerSize
+    && same (pointerSignature p) (text "_MP_")
+    && eqb (pointerParagraphs p) oneParagraph
+    && eqb (sum256 p) 0
+
+abbrev pub goodOne : Candidate → Bool
+goodOne c = good (c .bytes)
 
 -- "Search kind 1, then kind 2 only if no kind 1 region is listed (even an empty one counts as listed), then kind 3".
 unfoldable pub searched : List Region → List Region
@@ -41,7 +45,7 @@ searched rs = keep (ofKind 1) rs ++ (only (not (any (ofKind 1) rs)) (keep (ofKin
 
 -- The good pointers of a dump in the order of the search, addresses rising in each region.
 unfoldable pub pointers : List ℕ → List Candidate
-pointers d = keep good (joined (candidates d) (searched (regions d)))
+pointers d = keep goodOne (joined (candidates d) (searched (regions d)))
 
 abbrev pub noCandidate : Candidate
 noCandidate = record { address = 0; bytes = [] }
@@ -57,6 +61,10 @@ pointerBytes d = pointer d .bytes
 
 abbrev pub tableAddress : List ℕ → ℕ
 tableAddress d = pointerTable (pointerBytes d)
+
+-- The IMCR bit, as the number 0 or 1.
+abbrev pub imcrOf : List ℕ → ℕ
+imcrOf d = flag (imcr (pointerBytes d))
 
 -- Feature byte 1 is not 0: once 4 has been tested, "1 to 7 with address 0", which "answers 'default configuration n'".
 unfoldable pub isDefault : List ℕ → Bool
@@ -79,8 +87,7 @@ wrongFeature d =
     || isDefault d && not (eqb (tableAddress d) 0)
     || not (isDefault d) && eqb (tableAddress d) 0
 
--- ---- The table: the bytes from its address to the end of the region that holds it. Where no region does, the part from
--- that address up to 0 is empty.
+-- ---- The table: the bytes from its address to the end of the region that holds it; none where no region does.
 
 abbrev pub tableRegion : List ℕ → Region
 tableRegion d = holding (tableAddress d) (regions d)

@@ -1,9 +1,49 @@
 // Where things stand, for the code: the offsets, lengths and limits of specs/Layout.antt that code uses, each once. A
 // constant comes here with the first function that uses it, and that function's proof ties it to the definition.
 
+// ---- The dump: its limits, and the rows of its contents
+
+pub const DUMP_MOST: usize = 65536;
+
+pub const REGIONS_MOST: usize = 8;
+
+pub const REGION_COUNT: usize = 0;
+
+pub const ROW_LENGTH: usize = 9;
+
+pub const ROW_KIND: usize = 0;
+
+pub const ROW_BASE: usize = 1;
+
+pub const ROW_SIZE: usize = 5;
+
+pub const KILOBYTE: u32 = 1024;
+
+pub const ROM_START: u32 = 0xf0000;
+
+pub const ROM_END: u64 = 0x100000;
+
+pub const REGION_STEP: u32 = 16;
+
+pub const MEMORY_END: u64 = 0x100000000;
+
 // ---- The floating pointer, MPS Table 4-1
 
+pub const POINTER_SIZE: usize = 16;
+
 pub const POINTER_TABLE: usize = 4;
+
+pub const POINTER_PARAGRAPHS: usize = 8;
+
+pub const POINTER_REVISION: usize = 9;
+
+pub const FEATURE_1: usize = 11;
+
+pub const FEATURE_2: usize = 12;
+
+pub const ONE_PARAGRAPH: u8 = 1;
+
+pub const DEFAULT_MOST: u8 = 7;
 
 // ---- The header, MPS Table 4-2
 
@@ -51,6 +91,8 @@ pub const ENTRY_SIZE: usize = 8;
 
 pub const ENTRY_ID: usize = 1;
 
+pub const APIC_VERSION: usize = 2;
+
 pub const APIC_FLAGS: usize = 3;
 
 pub const BUS_NAME: usize = 2;
@@ -66,6 +108,8 @@ pub const INTERRUPT_TYPE: usize = 1;
 pub const INTERRUPT_FLAGS: usize = 2;
 
 pub const SOURCE_BUS: usize = 4;
+
+pub const SOURCE_IRQ: usize = 5;
 
 pub const DESTINATION: usize = 6;
 
@@ -105,6 +149,9 @@ pub const LINK_SIZE: usize = 8;
 pub const EXTENDED_BUS: usize = 2;
 
 pub const SPACE_KIND: usize = 3;
+
+// The byte with the bit of a link or a modifier.
+pub const LINK_BIT: usize = 3;
 
 pub const SPACE_BASE: usize = 4;
 

@@ -35,6 +35,14 @@ pub enum Examined {
     Refused(u8),
 }
 
+// A region of a dump: its kind, its physical base, where its body begins in the dump, and its length.
+pub struct Region {
+    pub kind: u8,
+    pub base: u32,
+    pub offset: usize,
+    pub size: u32,
+}
+
 // What a dump holds: refused with 1 to 18, a default configuration, or a table. The table's bytes are those of
 // the dump from `start` to `end`, the end of the region that holds it.
 pub enum Held {

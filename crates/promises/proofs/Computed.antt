@@ -13,10 +13,10 @@ use Rattle.mps.specs.Pointer.{addressed, candidates, good, searched, pointers, 
 use Rattle.mps.specs.Table.{headerCut, wrongSignature, wrongBaseLength, wrongBaseSum, wrongRevision, entryFault, walkFrom, walkFault, wrongType, cutOrMiscounted, descendingType, extendedFault, extendedFrom, wrongExtendedPart, wrongExtended}
 use Rattle.mps.specs.Rules.{enabledOf, idsOf, enabledIds, bootstraps, wrongProcessors, unknownName, wrongBuses, misplaced, wrongIoApics, isListed, wrongInterrupt, wrongInput, wrongOnSide, wrongInterrupts, wrongMapping, wrongHierarchy, wrongModifier, links, parentsOf, climbsTo, onCircle, circle, wrongSpaces}
 use Rattle.mps.specs.Sections.{rows, span, baseAfter, extendedAfter, sections}
-use Rattle.mps.specs.Judge.{tableRules, tableRefusal, pointerRules, dumpRules, dumpRefusal, judged, examined, told, held}
+use Rattle.mps.specs.Judge.{tableRules, tableRefusal, pointerRules, dumpRules, dumpRefusal, judged, examined, told, pointed, held}
 use Rattle.mps.specs.Routes.{matches, names, pair, pairsTo, routes, routesOf, routeRules, routeRefusal, routed, routesLeft}
 use Rattle.mps.specs.Addresses.{covers, touches, takesAway, adds, coversOrAdds, hasEntry, subtractive, says, climb, seenBy, addressRules, seen}
-use Rattle.mps.specs.Listing.{digits, decimalDigit, hexDigit, decimalWidth, decimal, hex, line, unpadded, onOff, bootAp, interruptName, cpuLine, busLine, ioApicLine, interruptLine, baseLine, mapLine, treeLine, modLine, skipLine, extendedLine, defaultLine, pointerLine, tableLine, endLine, tableLines, listing, refusedLine, programOutput, listRefusal, listed, listLeft}
+use Rattle.mps.specs.Listing.{digits, decimalDigit, hexDigit, decimalWidth, decimal, hex, line, unpadded, onOff, bootAp, interruptName, cpuLine, busLine, ioApicLine, interruptLine, baseLine, mapLine, treeLine, modLine, skipLine, extendedLine, defaultLine, pointerLine, tableLine, endLine, tableLines, listing, refusedLine, programOutput, listRefusal, listed, listLeft, printRefusal, printed, printLeft}
 use Rattle.mps.specs.Writing.{fieldsOf, partsOf, header, extendedSumOf, baseSumOf, image, earlyRefusal, writeRefusal, written, writeLeft}
 use Rattle.mps.specs.Edits.{standing, offsetOf, sealed, editedTable, noPlace, otherShape, changed, innerRefusal, editRules, editRefusal, edited, editLeft, run, runAnswers}
 use Rattle.mps.specs.Reader.{baseStep, extendedStep, entrySize, entryAt, nextPlace, found}
@@ -70,7 +70,7 @@ unfolding rows span baseAfter extendedAfter sections
 ofSections = 0
 
 ofJudge : ℕ
-unfolding tableRules tableRefusal pointerRules dumpRules dumpRefusal judged examined told held
+unfolding tableRules tableRefusal pointerRules dumpRules dumpRefusal judged examined told pointed held
 ofJudge = 0
 
 ofRoutes : ℕ
@@ -82,7 +82,7 @@ unfolding covers touches takesAway adds coversOrAdds hasEntry subtractive says c
 ofAddresses = 0
 
 ofListing : ℕ
-unfolding digits decimalDigit hexDigit decimalWidth decimal hex line unpadded onOff bootAp interruptName cpuLine busLine ioApicLine interruptLine baseLine mapLine treeLine modLine skipLine extendedLine defaultLine pointerLine tableLine endLine tableLines listing refusedLine programOutput listRefusal listed listLeft
+unfolding digits decimalDigit hexDigit decimalWidth decimal hex line unpadded onOff bootAp interruptName cpuLine busLine ioApicLine interruptLine baseLine mapLine treeLine modLine skipLine extendedLine defaultLine pointerLine tableLine endLine tableLines listing refusedLine programOutput listRefusal listed listLeft printRefusal printed printLeft
 ofListing = 0
 
 ofWriting : ℕ

@@ -36,7 +36,28 @@ use Rattle.sections.proofs.extended.Reads as extended-sections
 use Rattle.judge.proofs.judge.Reads as judge
 use Rattle.judge.proofs.refusal.Reads as judge-refusal
 use Rattle.judge.proofs.examine.Reads as examine
+use Rattle.regions.proofs.read.Reads as read-regions
+use Rattle.regions.proofs.of_kind.Reads as of-kind
+use Rattle.regions.proofs.holding.Reads as holding
+use Rattle.pointers.proofs.search.Reads as search
+use Rattle.dump.proofs.find.Reads as find
+use Rattle.dump.proofs.read.Reads as read-dump
+use Rattle.text.proofs.word.Reads as word
+use Rattle.text.proofs.decimal.Reads as decimal
+use Rattle.text.proofs.hex8.Reads as hex8
+use Rattle.text.proofs.hex16.Reads as hex16
+use Rattle.text.proofs.name.Reads as name
+use Rattle.lines.proofs.base.line.Reads as base-line
+use Rattle.lines.proofs.extended.line.Reads as extended-line
+use Rattle.lines.proofs.frame.pointer.Reads as pointer-line
+use Rattle.lines.proofs.frame.table.Reads as table-line
+use Rattle.lines.proofs.frame.end.Reads as end-line
+use Rattle.lines.proofs.frame.default.Reads as default-line
+use Rattle.lines.proofs.frame.refused.Reads as refused-line
+use Rattle.listing.proofs.list.Reads as list-dump
+use Rattle.listing.proofs.print.Reads as print
 use Rattle.exports.proofs.ruxtajma_judge.Reads as ruxtajma-judge
+use Rattle.exports.proofs.ruxtajma_list.Reads as ruxtajma-list
 
 -- A contract whose parameters are only read: at any arguments it allows one result.
 abbrev pub Answers : {K : Type 0} {A R S : K → Type 0} → ((κ : K) → A κ → R κ → S κ → Type 0) → Type 0
@@ -45,6 +66,11 @@ Answers {K} {A} {R} {S} P = (κ : K) (a : A κ) (x y : R κ) (s t : S κ) → P 
 -- A contract of a function that returns nothing, where `left` is the content of what was lent: it allows one content.
 abbrev pub Leaves : {K : Type 0} {A R S : K → Type 0} {X : Type 0} → ((κ : K) → A κ → R κ → S κ → Type 0) → ((κ : K) → S κ → X) → Type 0
 Leaves {K} {A} {R} {S} P left = (κ : K) (a : A κ) (x y : R κ) (s t : S κ) → P κ a x s → P κ a y t → left κ s ≡ left κ t
+
+-- A contract of a function that does both: it allows one answer and one content.
+abbrev pub Determines : {K : Type 0} {A R S : K → Type 0} {X : Type 0} → ((κ : K) → A κ → R κ → S κ → Type 0) → ((κ : K) → S κ → X) → Type 0
+Determines {K} {A} {R} {S} P left =
+    (κ : K) (a : A κ) (x y : R κ) (s t : S κ) → P κ a x s → P κ a y t → (x ≡ y) × (left κ s ≡ left κ t)
 
 -- ---- numbers
 
@@ -174,7 +200,82 @@ examine-determined κ a x y s t p q = p ∙ sym q
 pub judge-refusal-determined : Answers judge-refusal.Post
 judge-refusal-determined κ a x y s t p q = p ∙ sym q
 
+-- ---- regions
+
+pub read-regions-determined : Answers read-regions.Post
+read-regions-determined κ a x y s t p q = p ∙ sym q
+
+pub of-kind-determined : Answers of-kind.Post
+of-kind-determined κ a x y s t p q = p ∙ sym q
+
+pub holding-determined : Answers holding.Post
+holding-determined κ a x y s t p q = p ∙ sym q
+
+-- ---- pointers
+
+pub search-determined : Answers search.Post
+search-determined κ a x y s t p q = p ∙ sym q
+
+-- ---- dump
+
+pub find-determined : Answers find.Post
+find-determined κ a x y s t p q = p ∙ sym q
+
+pub read-dump-determined : Answers read-dump.Post
+read-dump-determined κ a x y s t p q = p ∙ sym q
+
+-- ---- text
+
+pub word-determined : Determines word.Post (λ κ s. now (s .0))
+word-determined κ a x y s t p q = (p .0 ∙ sym (q .0), p .1 ∙ sym (q .1))
+
+pub decimal-determined : Determines decimal.Post (λ κ s. now (s .0))
+decimal-determined κ a x y s t p q = (p .0 ∙ sym (q .0), p .1 ∙ sym (q .1))
+
+pub hex8-determined : Determines hex8.Post (λ κ s. now (s .0))
+hex8-determined κ a x y s t p q = (p .0 ∙ sym (q .0), p .1 ∙ sym (q .1))
+
+pub hex16-determined : Determines hex16.Post (λ κ s. now (s .0))
+hex16-determined κ a x y s t p q = (p .0 ∙ sym (q .0), p .1 ∙ sym (q .1))
+
+pub name-determined : Determines name.Post (λ κ s. now (s .0))
+name-determined κ a x y s t p q = (p .0 ∙ sym (q .0), p .1 ∙ sym (q .1))
+
+-- ---- lines
+
+pub base-line-determined : Determines base-line.Post (λ κ s. now (s .0))
+base-line-determined κ a x y s t p q = (p .0 ∙ sym (q .0), p .1 ∙ sym (q .1))
+
+pub extended-line-determined : Determines extended-line.Post (λ κ s. now (s .0))
+extended-line-determined κ a x y s t p q = (p .0 ∙ sym (q .0), p .1 ∙ sym (q .1))
+
+pub pointer-line-determined : Determines pointer-line.Post (λ κ s. now (s .0))
+pointer-line-determined κ a x y s t p q = (p .0 ∙ sym (q .0), p .1 ∙ sym (q .1))
+
+pub table-line-determined : Determines table-line.Post (λ κ s. now (s .0))
+table-line-determined κ a x y s t p q = (p .0 ∙ sym (q .0), p .1 ∙ sym (q .1))
+
+pub end-line-determined : Determines end-line.Post (λ κ s. now (s .0))
+end-line-determined κ a x y s t p q = (p .0 ∙ sym (q .0), p .1 ∙ sym (q .1))
+
+pub default-line-determined : Determines default-line.Post (λ κ s. now (s .0))
+default-line-determined κ a x y s t p q = (p .0 ∙ sym (q .0), p .1 ∙ sym (q .1))
+
+pub refused-line-determined : Determines refused-line.Post (λ κ s. now (s .0))
+refused-line-determined κ a x y s t p q = (p .0 ∙ sym (q .0), p .1 ∙ sym (q .1))
+
+-- ---- listing
+
+pub list-dump-determined : Determines list-dump.Post (λ κ s. now (s .1 .0))
+list-dump-determined κ a x y s t p q = (p .0 ∙ sym (q .0), p .1 ∙ sym (q .1))
+
+pub print-determined : Determines print.Post (λ κ s. now (s .1 .0))
+print-determined κ a x y s t p q = (p .0 ∙ sym (q .0), p .1 ∙ sym (q .1))
+
 -- ---- exports
 
 pub ruxtajma-judge-determined : Answers ruxtajma-judge.Post
 ruxtajma-judge-determined κ a x y s t p q = p ∙ sym q
+
+pub ruxtajma-list-determined : Determines ruxtajma-list.Post (λ κ s. now (s .1 .0))
+ruxtajma-list-determined κ a x y s t p q = (p .0 ∙ sym (q .0), p .1 ∙ sym (q .1))

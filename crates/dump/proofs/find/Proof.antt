@@ -1,0 +1,51 @@
+-- `find` meets its contract: 1 and 2 here, 3 and 4 by what `said` ensures.
+use Rattle.dump.proofs.Spots.{spotted-at, spotted-none}
+use Rattle.dump.proofs.Told.{read-wrong, read-sound, read-all, says-1, says-2}
+use borrow.Author.Needs.{needs}
+use Rattle.dump.proofs.find.Statement.{statement}
+use Rattle.dump.proofs.find.Tie as tie
+
+read-requires : tie.Need-read-requires
+read-requires c κs = search needs
+
+returns : tie.Need-returns
+returns c = says-1 _ (read-wrong _ (c .before .read .ensures) (c .if1 .taken))
+
+spot-requires : tie.Need-spot-requires
+spot-requires c κs =
+    let read = c .before .before .read .ensures in
+    let sound = read-sound _ read (c .before .if1 .left) in
+    (sound, read-all _ read sound)
+
+enum-told : tie.Need-enum-told
+enum-told c = search needs
+
+enum-known-spotted : tie.Need-enum-known-spotted
+enum-known-spotted c = search needs
+
+said-requires : tie.Need-said-requires
+said-requires c κs =
+    let read = c .before .before .before .before .before .before .read .ensures in
+    let sound = read-sound _ read (c .before .before .before .before .before .if1 .left) in
+    ((sound, read-all _ read sound), spotted-at _ _ (c .before .before .before .spot .ensures) (c .before .spotted .given .1))
+
+returns-2 : tie.Need-returns-2
+returns-2 c =
+    let sound = read-sound _ (c .before .before .before .before .before .read .ensures) (c .before .before .before .before .if1 .left) in
+    says-2 _ sound (spotted-none _ _ (c .before .before .spot .ensures) (c .enum-told .given .1))
+
+returns-3 : tie.Need-returns-3
+returns-3 c = c .said .ensures
+
+pub find-spec : {M : Type 1} → statement M
+find-spec =
+    tie.close
+    (tie.spec
+    read-requires
+    returns
+    spot-requires
+    enum-told
+    enum-known-spotted
+    said-requires
+    returns-2
+    returns-3)

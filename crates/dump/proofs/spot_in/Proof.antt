@@ -1,0 +1,79 @@
+-- `spot_in` meets its contract: the place found in the body is the first good candidate of the region.
+use native.Mathlib.Omega.{arith}
+use Rattle.dump.proofs.Spots.{found-inside, spots-at, spots-nothing}
+use borrow.Author.Needs.{needs}
+use Rattle.dump.proofs.spot_in.Statement.{statement}
+use Rattle.dump.proofs.spot_in.Tie as tie
+
+cast-size : tie.Need-cast-size
+cast-size c = search needs
+
+add-search : tie.Need-add-search
+add-search c = search needs
+
+sub-search : tie.Need-sub-search
+sub-search c = search needs
+
+part-search-start : tie.Need-part-search-start
+part-search-start c = search needs
+
+part-search-end : tie.Need-part-search-end
+part-search-end c = search needs
+
+search-requires : tie.Need-search-requires
+search-requires c κs = search needs
+
+enum-known-found : tie.Need-enum-known-found
+enum-known-found c = search needs
+
+cast-t13 : tie.Need-cast-t13
+cast-t13 c =
+    let start = c .before .before .before .before .before .before .before in
+    let search = c .before .before .before .search .ensures in
+    let inside = found-inside _ (start .args .r) (start .pre) search _ (c .before .found .given .1) in
+    omega (arith, inside, start .pre)
+
+add-t14 : tie.Need-add-t14
+add-t14 c =
+    let start = c .before .before .before .before .before .before .before .before in
+    let search = c .before .before .before .before .search .ensures in
+    let inside = found-inside _ (start .args .r) (start .pre) search _ (c .before .before .found .given .1) in
+    omega (arith, inside, start .pre)
+
+add-t15 : tie.Need-add-t15
+add-t15 c =
+    let start = c .before .before .before .before .before .before .before .before in
+    let search = c .before .before .before .before .search .ensures in
+    let inside = found-inside _ (start .args .r) (start .pre) search _ (c .before .before .found .given .1) in
+    omega (arith, inside, start .pre)
+
+enum-told : tie.Need-enum-told
+enum-told c = search needs
+
+returns : tie.Need-returns
+returns c =
+    let fits = c .before .before .before .before .before .before .before .before .pre in
+    spots-at _ _ fits (c .before .before .before .before .search .ensures) _ (c .before .before .found .given .1)
+
+returns-2 : tie.Need-returns-2
+returns-2 c =
+    let fits = c .before .before .before .before .before .before .pre in
+    spots-nothing _ _ fits (c .before .before .search .ensures) (c .enum-told .given .1)
+
+pub spot-in-spec : {M : Type 1} → statement M
+spot-in-spec =
+    tie.close
+    (tie.spec
+    cast-size
+    add-search
+    sub-search
+    part-search-start
+    part-search-end
+    search-requires
+    enum-known-found
+    cast-t13
+    add-t14
+    add-t15
+    enum-told
+    returns
+    returns-2)

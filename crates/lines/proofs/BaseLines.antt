@@ -1,0 +1,160 @@
+-- The lines of base entries, from their words. Assumes nothing.
+use Prim.Native.Nat.{ℕ, zero, suc, _-_, _/_, _%_, _<_, min}
+use mathlib.Core.Path.{_≡_, ap}
+use mathlib.Core.Bool.{false}
+use mathlib.Core.List.{List, [], _∷_}
+use native.Mathlib.Nat.{div-one, zero-min, min-zero, suc-min-suc, zero-sub, sub-zero, suc-sub-suc}
+use native.Mathlib.Omega.{arith}
+use borrow.Author.Tests.{ne-eqb}
+use lib.Dec.{eqb}
+use lib.ListN.{length, take}
+use lib.Seq.{take-nil, drop-nil}
+use Rattle.mps.specs.Words.{text, bit, byte, part}
+use Rattle.mps.specs.Numbers.{le}
+use Rattle.mps.specs.Layout.{Entry, polarity, trigger, destination, input}
+use Rattle.mps.specs.Listing.{decimal, hex, unpadded, onOff, bootAp, interruptName, line}
+use Rattle.mps.specs.Listing.{cpuLine, busLine, ioApicLine, interruptLine, baseLine}
+use Rattle.text.specs.Text.{ended}
+use Rattle.lines.specs.Wrote.{Wrote}
+use Rattle.lines.proofs.Laws.{Line, then, last, next}
+
+-- ---- Words of a choice
+
+gt-eqb : (a b : ℕ) → b < a → eqb a b ≡ false
+gt-eqb a b h = ne-eqb a b (λ e. omega (arith, e))
+
+module _ {t u : List ℕ} {at r : ℕ} (n : ℕ) where
+  pub on-is : n % 2 ≡ 1 → Wrote t at (text "on ") u r → Wrote t at (ended (onOff (bit 0 n)) 32) u r
+  unfolding text ended onOff bit
+  on-is h a = rw (div-one, h) a
+
+  pub off-is : n % 2 ≡ 0 → Wrote t at (text "off ") u r → Wrote t at (ended (onOff (bit 0 n)) 32) u r
+  unfolding text ended onOff bit
+  off-is h a = rw (div-one, h) a
+
+  pub boot-is : n / 2 % 2 ≡ 1 → Wrote t at (text "boot\n") u r → Wrote t at (ended (bootAp (bit 1 n)) 10) u r
+  unfolding text ended bootAp bit
+  boot-is h a = rw h a
+
+  pub ap-is : n / 2 % 2 ≡ 0 → Wrote t at (text "ap\n") u r → Wrote t at (ended (bootAp (bit 1 n)) 10) u r
+  unfolding text ended bootAp bit
+  ap-is h a = rw h a
+
+  pub int-is : n ≡ 0 → Wrote t at (text " INT ") u r → Wrote t at (32 ∷ ended (interruptName n) 32) u r
+  unfolding text ended interruptName
+  int-is h a = rw h a
+
+  pub nmi-is : n ≡ 1 → Wrote t at (text " NMI ") u r → Wrote t at (32 ∷ ended (interruptName n) 32) u r
+  unfolding text ended interruptName
+  nmi-is h a = rw h a
+
+  pub smi-is : n ≡ 2 → Wrote t at (text " SMI ") u r → Wrote t at (32 ∷ ended (interruptName n) 32) u r
+  unfolding text ended interruptName
+  smi-is h a = rw h a
+
+  pub extint-is : 2 < n → Wrote t at (text " EXTINT ") u r → Wrote t at (32 ∷ ended (interruptName n) 32) u r
+  unfolding text ended interruptName
+  extint-is h a = rw (gt-eqb n 0 (omega arith), gt-eqb n 1 (omega arith), gt-eqb n 2 h) a
+
+-- ---- Lines
+
+-- An end that is past the list's may as well be there.
+take-inside : (n : ℕ) (s : List ℕ) → take (min n (length s)) s ≡ take n s
+take-inside zero s = rw (zero-min (length s))
+take-inside (suc n) [] = rw (min-zero (suc n))
+take-inside (suc n) (x ∷ xs) = rw (suc-min-suc n (length xs)) (ap (λ (l : List ℕ). x ∷ l) (take-inside n xs))
+
+part-inside : (m n : ℕ) (s : List ℕ) → part (min m (length s)) (min n (length s)) s ≡ part m n s
+part-inside m n [] = rw (drop-nil (min m 0), drop-nil m, take-nil (min n 0 - min m 0), take-nil (n - m))
+part-inside zero n (x ∷ xs) =
+    let k = length (x ∷ xs) in
+    rw (zero-min k, sub-zero (min n k), sub-zero n) (take-inside n (x ∷ xs))
+part-inside (suc m) zero (x ∷ xs) =
+    let k = length (x ∷ xs) in
+    rw (zero-min k, zero-sub (min (suc m) k), zero-sub (suc m))
+part-inside (suc m) (suc n) (x ∷ xs) =
+    let k = length xs in
+    rw (suc-min-suc m k, suc-min-suc n k, suc-sub-suc (min n k) (min m k), suc-sub-suc n m) (part-inside m n xs)
+
+-- The last words of an interrupt, behind its polarity.
+abbrev signalled : Entry → List (List ℕ)
+signalled e = decimal (trigger e) ∷ decimal (destination e) ∷ decimal (input e) ∷ []
+
+module _ (e : Entry) {t u v w : List ℕ} {at p q r : ℕ} where
+  pub bus-is :
+      {from to : ℕ} → from ≡ min 2 (length e) → to ≡ min 8 (length e) → Wrote t at (ended (text "bus") 32) u p
+      → Wrote u p (ended (decimal (byte e 1)) 32) v q → Wrote v q (ended (unpadded (part from to e)) 10) w r
+      → Wrote t at (busLine e) w r
+  unfolding busLine
+  bus-is f g a b c =
+      next (text "bus") a (next (decimal (byte e 1)) b
+      (last (unpadded (part 2 8 e)) (rw (f, g, part-inside 2 8 e) at c))) .wrote
+
+  module _ {x y : List ℕ} {s end flags : ℕ} (f : flags ≡ byte e 3) where
+    -- What a processor and an I/O APIC have in common.
+    apic-is :
+        (word rest : List ℕ) → Wrote t at (ended word 32) u p → Wrote u p (ended (decimal (byte e 1)) 32) v q
+        → Wrote v q (ended (decimal (byte e 2)) 32) w r → Wrote w r (ended (onOff (bit 0 flags)) 32) x s
+        → Wrote x s (ended rest 10) y end
+        → Wrote t at (line word (decimal (byte e 1) ∷ decimal (byte e 2) ∷ onOff (bit 0 (byte e 3)) ∷ rest ∷ [])) y end
+    apic-is word rest a b c d g =
+        next word a (next (decimal (byte e 1)) b (next (decimal (byte e 2)) c
+        (next (onOff (bit 0 (byte e 3))) (rw (← f) d) (last rest g)))) .wrote
+
+    pub cpu-is :
+        Wrote t at (ended (text "cpu") 32) u p → Wrote u p (ended (decimal (byte e 1)) 32) v q
+        → Wrote v q (ended (decimal (byte e 2)) 32) w r → Wrote w r (ended (onOff (bit 0 flags)) 32) x s
+        → Wrote x s (ended (bootAp (bit 1 flags)) 10) y end → Wrote t at (cpuLine e) y end
+    unfolding cpuLine
+    cpu-is a b c d g = apic-is (text "cpu") (bootAp (bit 1 (byte e 3))) a b c d (rw (← f) g)
+
+    pub io-apic-is :
+        {address : ℕ} → address ≡ le 4 e 4 → Wrote t at (ended (text "ioapic") 32) u p
+        → Wrote u p (ended (decimal (byte e 1)) 32) v q → Wrote v q (ended (decimal (byte e 2)) 32) w r
+        → Wrote w r (ended (onOff (bit 0 flags)) 32) x s → Wrote x s (ended (hex 8 address) 10) y end
+        → Wrote t at (ioApicLine e) y end
+    unfolding ioApicLine
+    io-apic-is h a b c d g = apic-is (text "ioapic") (hex 8 (le 4 e 4)) a b c d (rw (← h) g)
+
+  pub signal-is :
+      {x : List ℕ} {s flags : ℕ} → flags ≡ byte e 2 → Wrote t at (ended (decimal (flags % 4)) 32) u p
+      → Wrote u p (ended (decimal (flags / 4 % 4)) 32) v q → Wrote v q (ended (decimal (byte e 6)) 32) w r
+      → Wrote w r (ended (decimal (byte e 7)) 10) x s → Wrote t at (line (decimal (polarity e)) (signalled e)) x s
+  signal-is f a b c d =
+      next (decimal (polarity e)) (rw f at a) (next (decimal (trigger e)) (rw f at b)
+      (next (decimal (destination e)) c (last (decimal (input e)) d))) .wrote
+
+  pub interrupt-is :
+      {x y : List ℕ} {s end kind : ℕ} (word : List ℕ) → kind ≡ byte e 1 → Wrote t at word u p
+      → Wrote u p (32 ∷ ended (interruptName kind) 32) v q → Wrote v q (ended (decimal (byte e 4)) 32) w r
+      → Wrote w r (ended (decimal (byte e 5)) 32) x s → Wrote x s (line (decimal (polarity e)) (signalled e)) y end
+      → Wrote t at (interruptLine word e) y end
+  unfolding interruptLine line ended
+  interrupt-is {x} {y} {s} {end} word k a b c d f =
+      let rest : Line x s (decimal (polarity e)) (signalled e) y end = record { wrote = f } in
+      then a (next (32 ∷ interruptName (byte e 1)) (rw k at b)
+      (next (decimal (byte e 4)) c (next (decimal (byte e 5)) d rest)) .wrote)
+
+-- ---- The line of an entry, by its type
+
+module _ {t u : List ℕ} {at r : ℕ} (e : Entry) (kind : ℕ) (is : kind ≡ byte e 0) where
+  pub cpu-first : kind ≡ 0 → Wrote t at (cpuLine e) u r → Wrote t at (baseLine e) u r
+  unfolding baseLine
+  cpu-first h a = rw (← is, h) a
+
+  pub bus-first : kind ≡ 1 → Wrote t at (busLine e) u r → Wrote t at (baseLine e) u r
+  unfolding baseLine
+  bus-first h a = rw (← is, h) a
+
+  pub io-apic-first : kind ≡ 2 → Wrote t at (ioApicLine e) u r → Wrote t at (baseLine e) u r
+  unfolding baseLine
+  io-apic-first h a = rw (← is, h) a
+
+  pub int-first : kind ≡ 3 → Wrote t at (interruptLine (text "int") e) u r → Wrote t at (baseLine e) u r
+  unfolding baseLine
+  int-first h a = rw (← is, h) a
+
+  pub lint-first : 3 < kind → Wrote t at (interruptLine (text "lint") e) u r → Wrote t at (baseLine e) u r
+  unfolding baseLine
+  lint-first h a =
+      rw (← is, gt-eqb kind 0 (omega arith), gt-eqb kind 1 (omega arith), gt-eqb kind 2 (omega arith), gt-eqb kind 3 h) a

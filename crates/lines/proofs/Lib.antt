@@ -1,0 +1,4 @@
+pub mod Laws
+pub mod FrameLines
+pub mod ExtendedLines
+pub mod BaseLines

@@ -1,0 +1,63 @@
+-- `bus-is`, from what each word's call ensures and where the name ends.
+use borrow.Author.Needs.{needs}
+use Rattle.mps.specs.Words.{text}
+use Rattle.text.specs.Text.{ended}
+use Rattle.lines.proofs.BaseLines.{bus-is}
+use Rattle.lines.proofs.base.bus.Statement.{statement}
+use Rattle.lines.proofs.base.bus.Tie as tie
+
+inside-requires : tie.Need-inside-requires
+inside-requires c κs = search needs
+
+inside-requires-2 : tie.Need-inside-requires-2
+inside-requires-2 c κs = search needs
+
+slice-aggregate-word : tie.Need-slice-aggregate-word
+slice-aggregate-word c = search needs
+
+word-requires : tie.Need-word-requires
+word-requires c κs = search needs
+
+field-requires : tie.Need-field-requires
+field-requires c κs = search needs
+
+sub-name : tie.Need-sub-name
+sub-name c = search needs
+
+part-name-start : tie.Need-part-name-start
+part-name-start c = search needs
+
+part-name-end : tie.Need-part-name-end
+part-name-end c = search needs
+
+name-requires : tie.Need-name-requires
+name-requires c κs = search needs
+
+same-length : tie.Need-same-length
+same-length c = search needs
+
+returns : tie.Need-returns
+unfolding ended text
+returns c =
+    let d = c .before .before in
+    let b = d .before .before .before .before .before in
+    let a = b .before .before .before .before in
+    let args = a .before .before .before .before .before .before .before .args in
+    bus-is (args .e .now) (a .before .before .before .before .inside .ensures) (a .before .before .before .inside2 .ensures)
+    (a .word .ensures .0) (b .field .ensures .0) (d .name .ensures .0)
+
+pub bus-spec : {M : Type 1} → statement M
+bus-spec =
+    tie.close
+    (tie.spec
+    inside-requires
+    inside-requires-2
+    slice-aggregate-word
+    word-requires
+    field-requires
+    sub-name
+    part-name-start
+    part-name-end
+    name-requires
+    same-length
+    returns)

@@ -1,0 +1,53 @@
+-- `signal-is`, from what each word's call ensures.
+use borrow.Author.Needs.{needs}
+use Rattle.lines.proofs.BaseLines.{signal-is}
+use Rattle.lines.proofs.base.signal.Statement.{statement}
+use Rattle.lines.proofs.base.signal.Tie as tie
+
+byte-requires : tie.Need-byte-requires
+byte-requires c κs = search needs
+
+cast-decimal : tie.Need-cast-decimal
+cast-decimal c = search needs
+
+decimal-requires : tie.Need-decimal-requires
+decimal-requires c κs = search needs
+
+cast-decimal-2 : tie.Need-cast-decimal-2
+cast-decimal-2 c = search needs
+
+decimal-requires-2 : tie.Need-decimal-requires-2
+decimal-requires-2 c κs = search needs
+
+field-requires : tie.Need-field-requires
+field-requires c κs = search needs
+
+field-requires-2 : tie.Need-field-requires-2
+field-requires-2 c κs = search needs
+
+same-length : tie.Need-same-length
+same-length c = search needs
+
+returns : tie.Need-returns
+returns c =
+    let e = c .before .before in
+    let d = e .before .before .before .before in
+    let b = d .before .before .before .before in
+    let a = b .before .before .before .before in
+    let args = a .before .before .before .before .before .args in
+    signal-is (args .e .now) (a .before .before .byte .ensures)
+    (a .decimal .ensures .0) (b .decimal2 .ensures .0) (d .field .ensures .0) (e .field2 .ensures .0)
+
+pub signal-spec : {M : Type 1} → statement M
+signal-spec =
+    tie.close
+    (tie.spec
+    byte-requires
+    cast-decimal
+    decimal-requires
+    cast-decimal-2
+    decimal-requires-2
+    field-requires
+    field-requires-2
+    same-length
+    returns)

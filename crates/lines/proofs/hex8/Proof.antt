@@ -1,0 +1,26 @@
+-- `behind`, from what the call ensures and how short the word is.
+use borrow.Author.Needs.{needs}
+use native.Mathlib.Omega.{arith}
+use Rattle.lines.proofs.Laws.{behind, hex-short}
+use Rattle.lines.proofs.hex8.Statement.{statement}
+use Rattle.lines.proofs.hex8.Tie as tie
+
+hex8-requires : tie.Need-hex8-requires
+hex8-requires c κs = search needs
+
+add-result : tie.Need-add-result
+add-result c =
+    let a = c .before .before .before .before .before .args in
+    omega (arith, hex-short 8 (a .x) (a .last))
+
+same-length : tie.Need-same-length
+same-length c = search needs
+
+returns : tie.Need-returns
+returns c =
+    let f = c .before .before .hex8 in
+    let a = c .before .before .before .before .before .args in
+    behind (a .at) 9 (f .ensures .0) (f .ensures .1) (hex-short 8 (a .x) (a .last))
+
+pub hex8-spec : {M : Type 1} → statement M
+hex8-spec = tie.close (tie.spec hex8-requires add-result same-length returns)

@@ -1,0 +1,4 @@
+pub mod Walk
+pub mod Most
+pub mod Laws
+pub mod Longest

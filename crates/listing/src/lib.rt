@@ -1,0 +1,199 @@
+// The listing of a dump, and all that the listing program writes.
+//
+// Promised of any bytes and any room: `list` answers `listed` and leaves `listLeft` in the room, and `print` answers
+// `printed` and leaves `printLeft`. The definitions stand in mps's specs/Listing.antt. A refusal leaves the room as it was.
+//
+// Nothing is written before it is known that all of it fits. Where the room holds the longest listing that such a table can
+// have, that is known at once; else the listing is made twice by the same functions: first in no room at all, which only
+// measures it, then in the room.
+use mps::Held;
+use mps::Written;
+use mps::layout;
+ghost use mathlib.Core.Path.{_≡_};
+ghost use Prim.Native.Nat.{ℕ, _+_, _*_, _≤_, _<_, min, max};
+ghost use lib.ListN.{length, drop};
+ghost use lib.Seq.{sets};
+ghost use Rattle.mps.specs.Words.{cut, joined};
+ghost use mathlib.Core.Bool.{cond};
+ghost use lib.Dec.{eqb};
+ghost use Rattle.mps.specs.Layout.{processorType, processorSize, entrySize, baseEntryLength, extendedEntryLength};
+ghost use Rattle.mps.specs.Judge.{tableRefusal};
+ghost use Rattle.mps.specs.Listing.{listed, listLeft, printed, printLeft, baseLine, extendedLine, defaultLine, refusedLine};
+ghost use Rattle.lines.specs.Wrote.{Wrote};
+ghost use Rattle.listing.specs.Fits.{fitted, fitLeft, tableText};
+
+// The length of a base entry, by its type.
+fn base_size(kind: u8) -> usize
+    ensures { λ r. ⌜ r ≡ cond (eqb kind processorType) processorSize entrySize ⌝ }
+{
+    if kind == layout::PROCESSOR_TYPE {
+        return layout::PROCESSOR_SIZE;
+    }
+    layout::ENTRY_SIZE
+}
+
+// Where an entry ends: behind its length, or at the end of the bytes where that is less.
+fn ending(s: &[u8], at: usize, size: usize) -> usize
+    requires { ⌜ at ≤ length (now s) ⌝ }
+    ensures { λ r. ⌜ r ≡ min (at + size) (length (now (s .entry))) ⌝ }
+{
+    if s.len() - at < size {
+        return s.len();
+    }
+    at + size
+}
+
+// The lines of base entries from a place on; answers the place behind them.
+fn put_base(out: &mut [u8], at: usize, s: &[u8]) -> usize
+    requires { ⌜ (at ≤ 1000) × (length (now s) ≤ 65535) ⌝ }
+    ensures { λ r. ⌜ Wrote (now (out .entry)) at (joined baseLine (cut baseEntryLength 0 (now (s .entry)))) (now (out .exit)) r ⌝ }
+    ensures { λ r. ⌜ r ≤ at + 64 * length (now (s .entry)) ⌝ }
+{
+    let mut place = at;
+    let mut i = 0;
+    while i < s.len() {
+        let end = ending(s, i, base_size(s[i]));
+        place += lines::base::line(out, place, &s[i..end]);
+        i = end;
+    }
+    place
+}
+
+// An entry of no length passes one byte, as `cut` has it, so that every walk ends; no judged table has one.
+fn behind(at: usize, end: usize) -> usize
+    requires { ⌜ at < 65536 ⌝ }
+    ensures { λ r. ⌜ r ≡ max (at + 1) end ⌝ }
+{
+    if at < end { end } else { at + 1 }
+}
+
+// The lines of extended entries.
+fn put_extended(out: &mut [u8], at: usize, s: &[u8]) -> usize
+    requires { ⌜ (at ≤ 5000000) × (length (now s) ≤ 65535) ⌝ }
+    ensures { λ r. ⌜ Wrote (now (out .entry)) at (joined extendedLine (cut extendedEntryLength 0 (now (s .entry)))) (now (out .exit)) r ⌝ }
+    ensures { λ r. ⌜ r ≤ at + 64 * length (now (s .entry)) ⌝ }
+{
+    let mut place = at;
+    let mut i = 0;
+    while i < s.len() {
+        let size = numbers::wide(numbers::byte(s, i + layout::ENTRY_LENGTH)) as usize;
+        let end = ending(s, i, size);
+        place += lines::extended::line(out, place, &s[i..end]);
+        i = behind(i, end);
+    }
+    place
+}
+
+// The whole listing of an accepted table, from the first byte of the room.
+fn put_table(out: &mut [u8], t: &[u8], pointer: u32, imcr: u8, address: u32) -> usize
+    requires { ⌜ tableRefusal (now t) ≡ 0 ⌝ }
+    ensures { λ r. ⌜ r ≡ length (tableText pointer imcr address (now (t .entry))) ⌝ }
+    ensures { λ _. ⌜ now (out .exit) ≡ sets (now (out .entry)) 0 (tableText pointer imcr address (now (t .entry))) ⌝ }
+{
+    let base = numbers::le16(t, layout::BASE_LENGTH);
+    let extended = numbers::le16(t, layout::EXTENDED_LENGTH);
+    let count = numbers::le16(t, layout::ENTRY_COUNT);
+    let base_end = base as usize;
+    let end = base_end + extended as usize;
+    let a = lines::frame::pointer(out, 0, pointer, imcr);
+    let b = a + lines::frame::table(out, a, address, base, extended, count);
+    let c = put_base(out, b, &t[layout::HEADER_SIZE..base_end]);
+    let d = put_extended(out, c, &t[base_end..end]);
+    d + lines::frame::end(out, d)
+}
+
+// No listing of a table whose parts have these lengths is longer: a base entry has at least eight bytes and a line of at
+// most 48, and no extended entry has more than nine times as many bytes in its line.
+fn bound(t: &[u8]) -> usize
+    requires { ⌜ tableRefusal (now t) ≡ 0 ⌝ }
+    ensures { λ r. ⌜ ((pointer imcr address : ℕ) → length (tableText pointer imcr address (now (t .entry))) ≤ r) ⌝ }
+{
+    let base = numbers::le16(t, layout::BASE_LENGTH) as usize;
+    let extended = numbers::le16(t, layout::EXTENDED_LENGTH) as usize;
+    6 * base + 9 * extended
+}
+
+// A room that holds the longest is enough without measuring.
+fn list_table(t: &[u8], pointer: u32, imcr: u8, address: u32, out: &mut [u8]) -> Written
+    requires { ⌜ tableRefusal (now t) ≡ 0 ⌝ }
+    ensures { λ r. ⌜ r ≡ fitted (tableText pointer imcr address (now (t .entry))) (now (out .entry)) ⌝ }
+    ensures { λ _. ⌜ now (out .exit) ≡ fitLeft (tableText pointer imcr address (now (t .entry))) (now (out .entry)) ⌝ }
+{
+    if bound(t) <= out.len() {
+        return Written::Bytes(put_table(out, t, pointer, imcr, address));
+    }
+    list_measured(t, pointer, imcr, address, out)
+}
+
+fn list_measured(t: &[u8], pointer: u32, imcr: u8, address: u32, out: &mut [u8]) -> Written
+    requires { ⌜ tableRefusal (now t) ≡ 0 ⌝ }
+    ensures { λ r. ⌜ r ≡ fitted (tableText pointer imcr address (now (t .entry))) (now (out .entry)) ⌝ }
+    ensures { λ _. ⌜ now (out .exit) ≡ fitLeft (tableText pointer imcr address (now (t .entry))) (now (out .entry)) ⌝ }
+{
+    let size = put_table(&mut out[..0], t, pointer, imcr, address);
+    if out.len() < size {
+        return Written::Refused(19);
+    }
+    put_table(out, t, pointer, imcr, address);
+    Written::Bytes(size)
+}
+
+fn list_default(number: u8, imcr: u8, out: &mut [u8]) -> Written
+    ensures { λ r. ⌜ r ≡ fitted (defaultLine number imcr) (now (out .entry)) ⌝ }
+    ensures { λ _. ⌜ now (out .exit) ≡ fitLeft (defaultLine number imcr) (now (out .entry)) ⌝ }
+{
+    let size = lines::frame::default(&mut out[..0], 0, number, imcr);
+    if out.len() < size {
+        return Written::Refused(19);
+    }
+    lines::frame::default(out, 0, number, imcr);
+    Written::Bytes(size)
+}
+
+fn print_refused(number: u8, out: &mut [u8]) -> Written
+    ensures { λ r. ⌜ r ≡ fitted (refusedLine number) (now (out .entry)) ⌝ }
+    ensures { λ _. ⌜ now (out .exit) ≡ fitLeft (refusedLine number) (now (out .entry)) ⌝ }
+{
+    let size = lines::frame::refused(&mut out[..0], 0, number);
+    if out.len() < size {
+        return Written::Refused(19);
+    }
+    lines::frame::refused(out, 0, number);
+    Written::Bytes(size)
+}
+
+// How many bytes of the listing stand in the room, or the number of the refusal, 1 to 19.
+pub fn list(d: &[u8], out: &mut [u8]) -> Written
+    ensures { λ r. ⌜ r ≡ listed (now (d .entry)) (now (out .entry)) ⌝ }
+    ensures { λ _. ⌜ now (out .exit) ≡ listLeft (now (d .entry)) (now (out .entry)) ⌝ }
+{
+    let found = dump::read(d);
+    match found {
+        Held::Refused(n) => Written::Refused(n),
+        Held::Default { number, imcr } => list_default(number, imcr, out),
+        Held::Table {
+            pointer,
+            imcr,
+            address,
+            start,
+            end,
+        } => list_table(&d[start..end], pointer, imcr, address, out),
+    }
+}
+
+// All that the listing program writes: the listing, or the line of the refusal.
+pub fn print(d: &[u8], out: &mut [u8]) -> Written
+    ensures { λ r. ⌜ r ≡ printed (now (d .entry)) (now (out .entry)) ⌝ }
+    ensures { λ _. ⌜ now (out .exit) ≡ printLeft (now (d .entry)) (now (out .entry)) ⌝ }
+{
+    let answer = list(d, out);
+    match answer {
+        Written::Bytes(n) => Written::Bytes(n),
+        Written::Refused(n) => {
+            if n == 19 {
+                return Written::Refused(19);
+            }
+            print_refused(n, out)
+        }
+    }
+}

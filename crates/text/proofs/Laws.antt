@@ -1,0 +1,282 @@
+-- Laws of text in a room: how long each word is, and how it is stored. Assumes nothing.
+use Prim.Native.Nat.{ℕ, zero, suc, _+_, _-_, _*_, _/_, _%_, _^_, _≤_, _<_}
+use mathlib.Core.Path.{_≡_, refl, ap, sym, _∙_}
+use mathlib.Core.Bool.{Bool, true, false, cond}
+use mathlib.Core.List.{List, [], _∷_, _++_}
+use native.Mathlib.Omega.{arith}
+use native.Mathlib.Numerals.{add-one}
+use native.Mathlib.Nat.{add-zero, add-suc, add-assoc, pow-succ', pow-zero, div-one, div-div-eq-div-mul}
+use lib.ListN.{length, getD, set, drop, drop-of-length-le, length-append}
+use lib.Seq.{drop-cons, sets, length-sets, set-comm, set-set, set-out}
+use lib.Dec.{ltb, leb}
+use borrow.Author.Tests.{ltb-true, ltb-false, leb-true, lt-ltb, le-ltb, le-leb, lt-leb, eq-eqb, ne-eqb}
+use Rattle.mps.specs.Words.{keep, flag}
+use Rattle.mps.specs.Listing.{digits, decimalDigit, hexDigit, decimalWidth, decimal, hex, notSpace, unpadded}
+use Rattle.laws.proofs.Tests.{whether, same-test}
+use Rattle.laws.proofs.Lists.{keep-in, keep-out}
+use Rattle.laws.proofs.Stores.{sets-append, sets-past}
+use Rattle.slices.proofs.Laws.{sets-next}
+use Rattle.text.specs.Text.{ended}
+
+-- ---- How long a word is
+
+pub length-ended : (w : List ℕ) (last : ℕ) → length (ended w last) ≡ length w + 1
+unfolding ended
+length-ended w last = length-append w (last ∷ [])
+
+pub ended-length : (w : List ℕ) (k last : ℕ) → k ≡ length w → k + 1 ≡ length (ended w last)
+ended-length w k last e = omega (arith, length-ended w last)
+
+pub length-digits : (b : ℕ) (f : ℕ → ℕ) (k n : ℕ) → length (digits b f k n) ≡ k
+unfolding digits
+length-digits b f zero n = refl
+length-digits b f (suc k) n = simp (length-append, length-digits b f k (n / b)) (omega arith)
+
+pub length-hex : (k n : ℕ) → length (hex k n) ≡ k
+unfolding hex
+length-hex k n = length-digits 16 hexDigit k n
+
+pub length-decimal : (n : ℕ) → length (decimal n) ≡ decimalWidth n
+unfolding decimal
+length-decimal n = length-digits 10 decimalDigit (decimalWidth n) n
+
+pub width-most : (n : ℕ) → decimalWidth n ≤ 5
+unfolding decimalWidth
+width-most n = go (ltb n 10) (ltb n 100) (ltb n 1000) (ltb n 10000)
+  where
+    go : (a b c d : Bool) → cond a 1 (cond b 2 (cond c 3 (cond d 4 5))) ≤ 5
+    go true b c d = omega arith
+    go false true c d = omega arith
+    go false false true d = omega arith
+    go false false false true = omega arith
+    go false false false false = omega arith
+
+pub length-decimal-most : (n : ℕ) → length (decimal n) ≤ 5
+length-decimal-most n = omega (arith, length-decimal n, width-most n)
+
+pub length-unpadded : (s : List ℕ) → length (unpadded s) ≤ length s
+unfolding unpadded keep
+length-unpadded [] = omega arith
+length-unpadded (x ∷ s) =
+    whether (notSpace x)
+    (λ e. rw (e, keep) (omega (arith, length-unpadded s)))
+    (λ e. rw (e, keep) (omega (arith, length-unpadded s)))
+
+-- ---- Digits, stored from the last to the first
+
+-- A store behind a word goes before it as well.
+sets-behind : (t w : List ℕ) (at j v : ℕ) → at + length w ≤ j → sets (set t j v) at w ≡ set (sets t at w) j v
+sets-behind t [] at j v h = refl
+sets-behind t (x ∷ w) at j v h =
+    rw (set-comm t j at v x (omega arith)) (sets-behind (set t at x) w (suc at) j v (omega arith))
+
+module _ (b : ℕ) (f : ℕ → ℕ) where
+  digits-suc : (m n at : ℕ) (t : List ℕ)
+      → sets t at (digits b f (suc m) n) ≡ sets (set t (at + m) (f (n % b))) at (digits b f m (n / b))
+  unfolding digits
+  digits-suc m n at t =
+      let d = digits b f m (n / b) in
+      let l = length-digits b f m (n / b) in
+      sets-append t at d (f (n % b) ∷ [])
+      ∙ rw l (sym (sets-behind t d at (at + m) (f (n % b)) (omega (arith, l))))
+
+  pub digits-next : (m n at : ℕ) (t : List ℕ) → 0 < m
+      → sets t at (digits b f m n) ≡ sets (set t (at + (m - 1)) (f (n % b))) at (digits b f (m - 1) (n / b))
+  digits-next zero n at t h = absurd (omega arith)
+  digits-next (suc m) n at t h =
+      let e : suc m - 1 ≡ m = omega arith in
+      rw e (digits-suc m n at t)
+
+  pub digits-done : (m n at : ℕ) (t : List ℕ) → m ≤ 0 → sets t at (digits b f m n) ≡ t
+  unfolding digits
+  digits-done zero n at t h = refl
+  digits-done (suc m) n at t h = absurd (omega arith)
+
+  -- Of r + j digits the last j stand past the end.
+  digits-within : (r j n at : ℕ) (t : List ℕ) → length t ≤ at + r
+      → sets t at (digits b f r (n / b ^ j)) ≡ sets t at (digits b f (r + j) n)
+  digits-within r zero n at t h = rw (add-zero, pow-zero, div-one)
+  digits-within r (suc j) n at t h =
+      let out = set-out t (at + (r + j)) (f (n % b)) (omega arith) in
+      rw (pow-succ', ← div-div-eq-div-mul n b (b ^ j), add-suc)
+      (digits-within r j (n / b) at t h ∙ rw out at (sym (digits-suc (r + j) n at t)))
+
+  pub digits-cut : (r k n at : ℕ) (t : List ℕ) → r ≤ k → length t ≤ at + r
+      → sets t at (digits b f r (n / b ^ (k - r))) ≡ sets t at (digits b f k n)
+  digits-cut r k n at t g h =
+      let e : r + (k - r) ≡ k = omega arith in
+      rw e at (digits-within r (k - r) n at t h)
+
+-- One decimal digit.
+pub decimal-next : (m n at : ℕ) (t : List ℕ) → 0 < m
+    → sets t at (digits 10 decimalDigit m n)
+    ≡ sets (set t (at + (m - 1)) (48 + n % 10)) at (digits 10 decimalDigit (m - 1) (n / 10))
+unfolding decimalDigit
+decimal-next m n at t h = digits-next 10 decimalDigit m n at t h
+
+-- One more of the last i digits is left off, or none is left to.
+module _ (b i n : ℕ) where
+  pub left-off-next : 0 < i → n / b / b ^ (i - 1) ≡ n / b ^ i
+  left-off-next h =
+      let e : i ≡ suc (i - 1) = omega arith in
+      div-div-eq-div-mul n b (b ^ (i - 1)) ∙ rw (← pow-succ', ← e)
+
+  pub left-off-done : i ≤ 0 → n / b ^ i ≡ n
+  left-off-done h = let e : i ≡ 0 = omega arith in rw (e, pow-zero, div-one)
+
+-- ---- Numbers and the byte behind them, in a room where they have no place, a place for r digits, or one for all
+
+pub decimal-is : (k n : ℕ) → k ≡ decimalWidth n → digits 10 decimalDigit k n ≡ decimal n
+unfolding decimal
+decimal-is k n e = rw e
+
+pub hex-is : (k n : ℕ) → digits 16 hexDigit k n ≡ hex k n
+unfolding hex
+hex-is k n = refl
+
+module _ (b : ℕ) (f : ℕ → ℕ) (k n : ℕ) (w : List ℕ) (e : digits b f k n ≡ w) (t : List ℕ) (at last : ℕ) where
+  number-length : k + 1 ≡ length (ended w last)
+  number-length = ended-length w k last (sym (length-digits b f k n) ∙ ap length e)
+
+  pub number-past : length t ≤ at → (k + 1 ≡ length (ended w last)) × (t ≡ sets t at (ended w last))
+  number-past h = (number-length, sym (sets-past t at (ended w last) h))
+
+  number-stored : set (sets t at w) (at + k) last ≡ sets t at (ended w last)
+  unfolding ended
+  number-stored =
+      let l : length w ≡ k = sym (ap length e) ∙ length-digits b f k n in
+      sym (rw l at (sets-append t at w (last ∷ [])))
+
+  pub number-fits : (u : List ℕ) → u ≡ sets t at (digits b f k n)
+      → (k + 1 ≡ length (ended w last)) × (set u (at + k) last ≡ sets t at (ended w last))
+  number-fits u p = (number-length, rw (p, e) number-stored)
+
+  pub number-cut : (u : List ℕ) (r y : ℕ)
+      → r ≤ k → length t ≤ at + r → y ≡ n / b ^ (k - r) → u ≡ sets t at (digits b f r y)
+      → (k + 1 ≡ length (ended w last)) × (u ≡ sets t at (ended w last))
+  number-cut u r y g h q p =
+      let all : u ≡ sets t at w = rw (p, q, ← e) (digits-cut b f r k n at t g h) in
+      let out = set-out (sets t at w) (at + k) last (omega (arith, length-sets t at w)) in
+      (number-length, all ∙ sym out ∙ number-stored)
+
+-- ---- Names, from place i on: nothing is left, a byte of the name stands there, or padding
+
+module _ (s : List ℕ) (i : ℕ) where
+  pub unpadded-done : length s ≤ i → unpadded (drop i s) ≡ []
+  unfolding unpadded keep
+  unpadded-done h = rw drop-of-length-le
+
+  pub unpadded-byte : i < length s → (getD s i 0 ≡ 32 → ⊥) → unpadded (drop i s) ≡ getD s i 0 ∷ unpadded (drop (i + 1) s)
+  unfolding unpadded
+  unpadded-byte h e =
+      rw (add-one i, drop-cons s i 0 h) (keep-in notSpace (getD s i 0) (drop (suc i) s) (rw (ne-eqb _ _ e)))
+
+  pub unpadded-space : i < length s → getD s i 0 ≡ 32 → unpadded (drop i s) ≡ unpadded (drop (i + 1) s)
+  unfolding unpadded
+  unpadded-space h e =
+      rw (add-one i, drop-cons s i 0 h) (keep-out notSpace (getD s i 0) (drop (suc i) s) (rw (eq-eqb _ _ e)))
+
+-- A byte that a word and its end are then stored over leaves nothing.
+sets-over : (t w : List ℕ) (at v last : ℕ) → sets (set t at v) at (ended w last) ≡ sets t at (ended w last)
+unfolding ended
+sets-over t [] at v last = set-set t at v last
+sets-over t (x ∷ w) at v last = ap (λ (l : List ℕ). sets l (suc at) (w ++ (last ∷ []))) (set-set t at v x)
+
+module _ (t s : List ℕ) (at i last : ℕ) where
+  pub name-done : length s ≤ i → sets t at (ended (unpadded (drop i s)) last) ≡ set t at last
+  unfolding ended
+  name-done h = rw (unpadded-done s i h)
+
+  pub name-byte :
+      i < length s → (getD s i 0 ≡ 32 → ⊥)
+      → sets t at (ended (unpadded (drop i s)) last)
+      ≡ sets (set t at (getD s i 0)) (at + 1) (ended (unpadded (drop (i + 1) s)) last)
+  unfolding ended
+  name-byte h e = rw (unpadded-byte s i h e, add-one at)
+
+  pub name-space :
+      (v : ℕ) → i < length s → getD s i 0 ≡ 32
+      → sets t at (ended (unpadded (drop i s)) last) ≡ sets (set t at v) at (ended (unpadded (drop (i + 1) s)) last)
+  name-space v h e = rw (unpadded-space s i h e) (sym (sets-over t (unpadded (drop (i + 1) s)) at v last))
+
+-- ---- Words, from byte i on
+
+pub word-next :
+    (t w : List ℕ) (at i : ℕ) → i < length w
+    → sets t (at + i) (drop i w) ≡ sets (set t (at + i) (getD w i 0)) (at + (i + 1)) (drop (i + 1) w)
+word-next t w at i h = rw (← add-assoc at i 1) (sets-next t w (at + i) i h)
+
+-- ---- The width of a number, and a digit
+
+module _ (n : ℕ) where
+  reached : (k : ℕ) → ltb n k ≡ false → leb k n ≡ true
+  reached k e = le-leb k n (ltb-false n k e)
+
+  short : (j k : ℕ) → ltb n j ≡ true → j ≤ k → leb k n ≡ false
+  short j k e h = lt-leb k n (omega (arith, ltb-true n j e))
+
+  pub width-is : 1 + flag (leb 10 n) + flag (leb 100 n) + flag (leb 1000 n) + flag (leb 10000 n) ≡ decimalWidth n
+  unfolding decimalWidth
+  width-is =
+      whether (ltb n 10) (λ a. simp (a, short 10 10 a (omega arith), short 10 100 a (omega arith), short 10 1000 a (omega arith), short 10 10000 a (omega arith))) (λ a.
+      whether (ltb n 100) (λ b. simp (a, b, reached 10 a, short 100 100 b (omega arith), short 100 1000 b (omega arith), short 100 10000 b (omega arith))) (λ b.
+      whether (ltb n 1000) (λ c. simp (a, b, c, reached 10 a, reached 100 b, short 1000 1000 c (omega arith), short 1000 10000 c (omega arith))) (λ c.
+      whether (ltb n 10000) (λ d. simp (a, b, c, d, reached 10 a, reached 100 b, reached 1000 c, short 10000 10000 d (omega arith))) (λ d.
+      simp (a, b, c, d, reached 10 a, reached 100 b, reached 1000 c, reached 10000 d)))))
+
+pub digit-is : (d : ℕ) → d < 16 → 48 + d + (d + 6) / 16 * 7 ≡ hexDigit d
+unfolding hexDigit
+digit-is d h =
+    whether (ltb d 10)
+    (λ e. rw e (omega (arith, ltb-true d 10 e)))
+    (λ e. rw e (omega (arith, ltb-false d 10 e)))
+
+-- ---- Numbers of up to three digits, written out
+
+pub four-left : (at n : ℕ) → at < n → leb 4 (n - at) ≡ leb (at + 4) n
+four-left at n h =
+    same-test (leb 4 (n - at)) (leb (at + 4) n)
+    (λ e. let k = leb-true 4 (n - at) e in le-leb (at + 4) n (omega arith))
+    (λ e. let k = leb-true (at + 4) n e in le-leb 4 (n - at) (omega arith))
+
+pub four-past : (at n : ℕ) → n ≤ at → false ≡ leb (at + 4) n
+four-past at n h = sym (lt-leb (at + 4) n (omega arith))
+
+module _ (n last : ℕ) where
+  one-digit : n < 10 → ended (decimal n) last ≡ (48 + n) ∷ last ∷ []
+  unfolding ended decimal decimalWidth digits decimalDigit
+  one-digit h =
+      let d : n % 10 ≡ n = omega arith in
+      simp (lt-ltb n 10 h, d)
+
+  two-digits : 10 ≤ n → n < 100 → ended (decimal n) last ≡ (48 + n / 10) ∷ (48 + n % 10) ∷ last ∷ []
+  unfolding ended decimal decimalWidth digits decimalDigit
+  two-digits l h =
+      let d : n / 10 % 10 ≡ n / 10 = omega arith in
+      simp (le-ltb n 10 l, lt-ltb n 100 h, d)
+
+  three-digits : 100 ≤ n → n < 1000 → ended (decimal n) last ≡ (48 + n / 100) ∷ (48 + n / 10 % 10) ∷ (48 + n % 10) ∷ last ∷ []
+  unfolding ended decimal decimalWidth digits decimalDigit
+  three-digits l h =
+      let d : n / 10 / 10 % 10 ≡ n / 100 = omega arith in
+      simp (le-ltb n 10 (omega arith), le-ltb n 100 l, lt-ltb n 1000 h, d)
+
+  -- .. and stored one behind the other.
+  module _ (t : List ℕ) (at : ℕ) where
+    pub stored-1 : n < 10 → (2 ≡ length (ended (decimal n) last)) × (set (set t at (48 + n)) (at + 1) last ≡ sets t at (ended (decimal n) last))
+    stored-1 h = let a : at + 1 ≡ suc at = omega arith in rw (one-digit h, a) (refl, refl)
+
+    pub stored-2 : 10 ≤ n → n < 100 → (3 ≡ length (ended (decimal n) last))
+        × (set (set (set t at (48 + n / 10)) (at + 1) (48 + n % 10)) (at + 2) last ≡ sets t at (ended (decimal n) last))
+    stored-2 l h =
+        let a : at + 1 ≡ suc at = omega arith in
+        let b : at + 2 ≡ suc (suc at) = omega arith in
+        rw (two-digits l h, a, b) (refl, refl)
+
+    pub stored-3 : 100 ≤ n → n < 1000 → (4 ≡ length (ended (decimal n) last))
+        × (set (set (set (set t at (48 + n / 100)) (at + 1) (48 + n / 10 % 10)) (at + 2) (48 + n % 10)) (at + 3) last ≡ sets t at (ended (decimal n) last))
+    stored-3 l h =
+        let a : at + 1 ≡ suc at = omega arith in
+        let b : at + 2 ≡ suc (suc at) = omega arith in
+        let c : at + 3 ≡ suc (suc (suc at)) = omega arith in
+        rw (three-digits l h, a, b, c) (refl, refl)
