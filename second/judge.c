@@ -4,21 +4,6 @@
 #include <stdbool.h>
 #include <string.h>
 
-enum {
-    HEADER_SIZE = 44,
-    PART_MAX = 4096,   /* of the base and of the extended part */
-    ALL = 255,         /* the destination that names every APIC */
-
-    PROCESSOR = 0, BUS = 1, IO_APIC = 2, IO_INT = 3, LOCAL_INT = 4,
-    BASE_TYPES = 5,
-
-    MAPPING = 0, LINK = 1, MODIFIER = 2,   /* 128, 129 and 130 */
-    EXT_FIRST = 128,
-    EXT_TYPES = 3,
-
-    ENABLED = 1, BOOTSTRAP = 2
-};
-
 static const uint8_t base_size[BASE_TYPES] = { 20, 8, 8, 8, 8 };
 static const uint8_t ext_size[EXT_TYPES] = { 20, 8, 8 };
 
@@ -31,19 +16,6 @@ static const char bus_names[18][6] = {
 /* A set of IDs. */
 struct set {
     uint64_t word[4];
-};
-
-/*
- * A table whose parts have been walked.  Types ascend, so the entries of one
- * type stand together: those of base type k at base[k] up to base[k + 1],
- * those of extended type 128 + k at ext[k] up to ext[k + 1].
- */
-struct table {
-    const uint8_t *bytes;
-    size_t base_end;
-    size_t ext_end;
-    size_t base[BASE_TYPES + 1];
-    size_t ext[EXT_TYPES + 1];
 };
 
 /* The IDs that later rules look up, gathered by rules 14 to 16. */
@@ -62,21 +34,6 @@ static bool in(const struct set *s, uint8_t id)
 static void add(struct set *s, uint8_t id)
 {
     s->word[id >> 6] |= (uint64_t)1 << (id & 63);
-}
-
-static uint32_t get16(const uint8_t *p)
-{
-    return p[0] | (uint32_t)p[1] << 8;
-}
-
-static uint32_t get32(const uint8_t *p)
-{
-    return get16(p) | get16(p + 2) << 16;
-}
-
-static uint64_t get64(const uint8_t *p)
-{
-    return get32(p) | (uint64_t)get32(p + 4) << 32;
 }
 
 static uint8_t sum(const uint8_t *p, size_t n)
@@ -374,26 +331,32 @@ static uint8_t judge_modifiers(const struct table *t, const struct set *buses)
     return 0;
 }
 
-uint8_t plain_judge(const uint8_t *bytes, size_t n)
+uint8_t plain_judge_walk(const uint8_t *bytes, size_t n, struct table *t)
 {
-    struct table t;
     struct ids ids = { 0 };
     uint8_t refusal;
 
     if ((refusal = judge_header(bytes, n)) != 0)
         return refusal;
 
-    t.bytes = bytes;
-    t.base_end = get16(bytes + 4);
-    if ((refusal = walk_base(&t)) != 0
-        || (refusal = walk_extended(&t, n)) != 0
-        || (refusal = judge_processors(&t, &ids)) != 0
-        || (refusal = judge_buses(&t, &ids)) != 0
-        || (refusal = judge_io_apics(&t, &ids)) != 0
-        || (refusal = judge_interrupts(&t, &ids)) != 0
-        || (refusal = judge_mappings(&t, &ids.buses)) != 0
-        || (refusal = judge_links(&t, &ids.buses)) != 0
-        || (refusal = judge_modifiers(&t, &ids.buses)) != 0)
+    t->bytes = bytes;
+    t->base_end = get16(bytes + 4);
+    if ((refusal = walk_base(t)) != 0
+        || (refusal = walk_extended(t, n)) != 0
+        || (refusal = judge_processors(t, &ids)) != 0
+        || (refusal = judge_buses(t, &ids)) != 0
+        || (refusal = judge_io_apics(t, &ids)) != 0
+        || (refusal = judge_interrupts(t, &ids)) != 0
+        || (refusal = judge_mappings(t, &ids.buses)) != 0
+        || (refusal = judge_links(t, &ids.buses)) != 0
+        || (refusal = judge_modifiers(t, &ids.buses)) != 0)
         return refusal;
     return 0;
+}
+
+uint8_t plain_judge(const uint8_t *bytes, size_t n)
+{
+    struct table walked;
+
+    return plain_judge_walk(bytes, n, &walked);
 }

@@ -1,13 +1,16 @@
 #!/usr/bin/env python3
-"""Tests compare itself: each mutant of judge.c stands in for the library and
-must be found.  mutants.py [COUNT]; exit 1 if one survives."""
+"""Tests compare itself: each mutant of judge.c, dump.c or list.c stands in for
+the library and must be found.  mutants.py [COUNT]; exit 1 if one survives."""
 import os, subprocess, sys, tempfile
+
+sys.dont_write_bytecode = True   # nothing is left beside the sources
+import mutants_listing
 
 HERE = os.path.dirname(os.path.abspath(__file__))
 COUNT = sys.argv[1] if len(sys.argv) > 1 else "20000"
 
 # rule, what is wrong, old text (must occur once), new text
-MUTANTS = [
+JUDGE = [
  (5, "44 taken as 43", "if (n < HEADER_SIZE)", "if (n < HEADER_SIZE - 1)"),
  (5, "44 taken as 45", "if (n < HEADER_SIZE)", "if (n < HEADER_SIZE + 1)"),
  (5, "no test", "if (n < HEADER_SIZE)", "if (n == 0)"),
@@ -130,41 +133,60 @@ MUTANTS = [
  (0, "answers 19", "if ((refusal = judge_header(bytes, n)) != 0)\n        return refusal;", "if ((refusal = judge_header(bytes, n)) != 0)\n        return refusal == 9 ? 19 : refusal;"),
 ]
 # Equal to the original: the next entry would start at the length byte, and its
-# value 1 is a type under 128, or one byte is left; 13 either way.
-EQUAL = {(13, "length 1 allowed")}
+# value 1 is a type under 128, or one byte is left; 13 either way.  And a dump
+# that lacks its last byte does not end with the last body; 1 either way.
+EQUAL = {(13, "length 1 allowed"), (1, "body cut by one")}
+
+SOURCES = {"judge": JUDGE, "dump": mutants_listing.DUMP, "list": mutants_listing.LIST}
+PROGRAMS = {"measure", "subjects", "boards", "list_program"}   # not part of compare
+
+# The stand-in is the plain program once more, under the library's names.
+RENAMED = ["-Dplain_judge=ruxtajma_judge", "-Dplain_list=ruxtajma_list",
+           "-Dplain_judge_walk=mutant_judge_walk", "-Dplain_find=mutant_find"]
 
 def run(cmd, cwd):
     return subprocess.run(cmd, cwd=cwd, capture_output=True, text=True)
 
+def compile(source, to, tmp, *flags):
+    r = run(["cc", "-std=c11", "-O2", "-w", f"-I{HERE}", *flags, "-c", source, "-o", to], tmp)
+    assert r.returncode == 0, (source, r.stderr)
+
+def outcome(parts, mutated, text, tmp):
+    """What compare says of a library with one source replaced by the text."""
+    with open(f"{tmp}/mutant.c", "w") as f:
+        f.write(text)
+    compile("mutant.c", "mutant.o", tmp, *RENAMED)
+    others = [f"library_{name}.o" for name in SOURCES if name != mutated]
+    r = run(["cc", *(f"{f}.o" for f in parts), "mutant.o", *others, "-o", "compare"], tmp)
+    assert r.returncode == 0, r.stderr
+    return run(["./compare", COUNT, "3"], tmp)
+
 def main():
-    source = open(os.path.join(HERE, "judge.c")).read()
-    found, missed = {}, []
+    found, missed, total = {}, [], 0
     with tempfile.TemporaryDirectory() as tmp:
-        parts = [f[:-2] for f in os.listdir(HERE) if f.endswith(".c") and f != "measure.c"]
+        parts = [f[:-2] for f in os.listdir(HERE) if f.endswith(".c") and f[:-2] not in PROGRAMS]
         for f in parts:
-            r = run(["cc", "-std=c11", "-O2", "-c", f"{HERE}/{f}.c", "-o", f"{f}.o"], tmp)
-            assert r.returncode == 0, r.stderr
-        for rule, what, old, new in MUTANTS:
-            assert source.count(old) == 1, (rule, what, source.count(old))
-            with open(f"{tmp}/mutant.c", "w") as f:
-                f.write(source.replace(old, new))
-            r = run(["cc", "-std=c11", "-O2", "-w", f"-I{HERE}", "-Dplain_judge=ruxtajma_judge",
-                     "-c", "mutant.c", "-o", "mutant.o"], tmp)
-            assert r.returncode == 0, (rule, what, r.stderr)
-            r = run(["cc", *(f"{f}.o" for f in parts), "mutant.o", "-o", "compare"], tmp)
-            assert r.returncode == 0, r.stderr
-            r = run(["./compare", COUNT, "3"], tmp)
-            caught = r.returncode == 1
-            if caught:
-                found[rule] = found.get(rule, 0) + 1
-            if caught == ((rule, what) in EQUAL):
-                missed.append((rule, what))
-            words = r.stderr.strip() or "no difference"
-            print(f"{rule:3} {what}: {'found' if caught else 'NOT FOUND'}: {words[:150]}", flush=True)
-    print(f"{sum(found.values())} of {len(MUTANTS)} found;",
-          ", ".join(f"rule {k}: {v}" for k, v in sorted(found.items())))
+            compile(f"{HERE}/{f}.c", f"{f}.o", tmp)
+        for name in SOURCES:
+            compile(f"{HERE}/{name}.c", f"library_{name}.o", tmp, *RENAMED)
+        for name, mutants in SOURCES.items():
+            source = open(os.path.join(HERE, f"{name}.c")).read()
+            for rule, what, old, new in mutants:
+                assert source.count(old) == 1, (name, rule, what, source.count(old))
+                r = outcome(parts, name, source.replace(old, new), tmp)
+                caught = r.returncode == 1
+                total += 1
+                if caught:
+                    found[name] = found.get(name, 0) + 1
+                if caught == ((rule, what) in EQUAL):
+                    missed.append((name, rule, what))
+                words = r.stderr.strip() or "no difference"
+                print(f"{name} {rule:3} {what}: {'found' if caught else 'NOT FOUND'}: {words[:150]}", flush=True)
+    print(f"{sum(found.values())} of {total} found;",
+          ", ".join(f"{k}.c: {v}" for k, v in found.items()))
     if missed:
         print("not as foreseen:", missed)
     return 1 if missed else 0
 
-sys.exit(main())
+if __name__ == "__main__":
+    sys.exit(main())

@@ -1,0 +1,25 @@
+/* Tables to measure with, and dumps around them. */
+#ifndef SECOND_BOARDS_H
+#define SECOND_BOARDS_H
+
+#include "builder.h"
+
+#include <stdbool.h>
+
+/* Fill both parts to the goal, 4,096 / part bytes each. */
+typedef void make_board(struct builder *b, size_t goal, uint32_t part);
+
+make_board make_mixed, make_interrupts, make_processors, make_chain,
+           make_io_apics, make_unknowns;
+
+/* Some 40 entries, as boards of the day have. */
+void make_typical(struct builder *b);
+
+/*
+ * A dump of one kind 3 region at F0000h, the table at F0010h as on the bench
+ * board.  The pointer stands before it, or in the last paragraph.  A size makes
+ * the dump so long, 0 as long as needed.  Answers its length.
+ */
+size_t dump_around(const struct builder *b, size_t size, bool last, uint8_t *out);
+
+#endif

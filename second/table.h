@@ -1,0 +1,52 @@
+/* The layout of an MP table (document 01, "The table"), for judge and listing. */
+#ifndef PLAIN_TABLE_H
+#define PLAIN_TABLE_H
+
+#include <stddef.h>
+#include <stdint.h>
+
+enum {
+    HEADER_SIZE = 44,
+    PART_MAX = 4096,   /* of the base and of the extended part */
+    ALL = 255,         /* the destination that names every APIC */
+
+    PROCESSOR = 0, BUS = 1, IO_APIC = 2, IO_INT = 3, LOCAL_INT = 4,
+    BASE_TYPES = 5,
+
+    MAPPING = 0, LINK = 1, MODIFIER = 2,   /* 128, 129 and 130 */
+    EXT_FIRST = 128,
+    EXT_TYPES = 3,
+
+    ENABLED = 1, BOOTSTRAP = 2
+};
+
+/*
+ * A table whose parts have been walked.  Types ascend, so the entries of one
+ * type stand together: those of base type k at base[k] up to base[k + 1],
+ * those of extended type 128 + k at ext[k] up to ext[k + 1], and those of the
+ * other extended types from there to ext_end.
+ */
+struct table {
+    const uint8_t *bytes;
+    size_t base_end;
+    size_t ext_end;
+    size_t base[BASE_TYPES + 1];
+    size_t ext[EXT_TYPES + 1];
+};
+
+static inline uint32_t get16(const uint8_t *p)
+{
+    return p[0] | (uint32_t)p[1] << 8;
+}
+
+static inline uint32_t get32(const uint8_t *p)
+{
+    return get16(p) | get16(p + 2) << 16;
+}
+
+static inline uint64_t get64(const uint8_t *p)
+{
+    return get32(p) | (uint64_t)get32(p + 4) << 32;
+}
+
+#endif
