@@ -1,17 +1,17 @@
 -- What the calls answer, and what they leave. Assumes nothing.
 use Prim.Native.Nat.{ℕ, zero, suc, _+_, _≤_, _<_}
 use mathlib.Core.Path.{_≡_, refl, ap, sym, _∙_}
-use mathlib.Core.Bool.{Bool, true, false, cond}
+use mathlib.Core.Bool.{true, false}
 use mathlib.Core.List.{List, [], _∷_, _++_}
 use native.Mathlib.Omega.{arith}
-use lib.ListN.{length, drop}
-use lib.Dec.{ltb, leb, eqb}
+use lib.ListN.{length}
+use lib.Dec.{ltb, leb}
 use lib.Seq.{sets}
 use borrow.Author.Tests.{lt-ltb, le-ltb, ne-eqb}
-use Rattle.mps.specs.Words.{part, cut, joined, put, among, each, any, first, head}
+use Rattle.mps.specs.Words.{part, cut, joined, among, each, any, first, head}
 use Rattle.mps.specs.Refusals.{Rule, _when_, refusal}
 use Rattle.mps.specs.Answers.{writtenNumbers}
-use Rattle.mps.specs.Layout.{headerSize, baseLength, extendedLength, extendedEnd, entryCount, baseEntryLength, extendedEntryLength, baseEntries, extendedEntries}
+use Rattle.mps.specs.Layout.{headerSize, baseLength, extendedLength, entryCount, baseEntryLength, extendedEntryLength, baseEntries, extendedEntries}
 use Rattle.mps.specs.Layout.{feature1}
 use Rattle.mps.specs.Pointer.{pointerBytes, isDefault, imcrOf}
 use Rattle.mps.specs.Judge.{pointerRules, tableRules, dumpRules, dumpRefusal}

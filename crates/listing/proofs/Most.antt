@@ -1,12 +1,12 @@
 -- How long a line can be. Assumes nothing.
-use Prim.Native.Nat.{ℕ, _+_, _≤_, min}
-use mathlib.Core.Path.{_≡_, refl}
+use Prim.Native.Nat.{ℕ, _+_, _≤_}
+use mathlib.Core.Path.{_≡_}
 use mathlib.Core.Bool.{Bool, true, false, cond}
-use mathlib.Core.List.{List, [], _∷_, _++_}
+use mathlib.Core.List.{List, [], _∷_}
 use native.Mathlib.Omega.{arith}
 use lib.ListN.{length, drop, length-append, length-take}
 use lib.Dec.{eqb}
-use Rattle.mps.specs.Words.{text, flag, each, part}
+use Rattle.mps.specs.Words.{text, flag, each}
 use Rattle.mps.specs.Sums.{total}
 use Rattle.mps.specs.Layout.{Entry, ofType, processorType, busType, ioApicType, ioInterruptType, mappingType, hierarchyType, modifierType}
 use Rattle.mps.specs.Layout.{idOf, version, enabled, bootstrap, nameOf, addressOf, extendedEntryLength, type}

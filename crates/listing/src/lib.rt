@@ -154,12 +154,12 @@ fn print_refused(number: u8, out: &mut [u8]) -> Written
     ensures { λ r. ⌜ r ≡ fitted (refusedLine number) (now (out .entry)) ⌝ }
     ensures { λ _. ⌜ now (out .exit) ≡ fitLeft (refusedLine number) (now (out .entry)) ⌝ }
 {
-    let size = lines::frame::refused(&mut out[..0], 0, number);
-    if out.len() < size {
+    let width = lines::frame::refused(&mut out[..0], 0, number);
+    if out.len() < width {
         return Written::Refused(19);
     }
     lines::frame::refused(out, 0, number);
-    Written::Bytes(size)
+    Written::Bytes(width)
 }
 
 // How many bytes of the listing stand in the room, or the number of the refusal, 1 to 19.

@@ -1,11 +1,11 @@
 // mplist: reads the dump of a board's memory from standard input and writes its listing, or the line of its refusal, to
 // standard output.
 //
-// Promised, by `answer`: for the bytes that came in, the bytes that are handed to standard output are `programOutput` of
-// them (mps's specs/Listing.antt), all of it, whatever came in. Also that every run is safe and ends, if each read and
-// write does. Not promised, for nothing can say so of a call to the system: that what came in is what was sent, and that
-// what is handed over arrives. Where the system reports a failure, a line on standard error says so; the exit status is 0
-// all the same, as a `main` returns nothing.
+// Promised, by `answer`: of any bytes, `programOutput` of them (mps's specs/Listing.antt) stands in the room, all of it.
+// Promised of the rest: every run is safe, and it ends if each read and write does. No contract can say what a call to
+// the system reads or writes: that `answer` is given what came in, and that its room is what goes out, is read from the
+// few lines below, and run by .ci/shelf. Where the system reports a failure, a line on standard error says so; the exit
+// status is 0 all the same, as a `main` returns nothing.
 //
 // A call that a signal interrupted counts as failed. This program catches no signal, so no read or write of a file, a
 // pipe or a terminal is interrupted; to ask why a call failed would mean one more function in C to be trusted.
@@ -19,14 +19,14 @@ ghost use lib.ListN.{length, take};
 ghost use Rattle.mps.specs.Listing.{programOutput};
 ghost use Rattle.mplist.specs.Input.{Within};
 
-// How many bytes came before the input ended or the room was full.
+// How many bytes came before the input ended or the buffer was full.
 enum Input {
     Failed,
     Bytes(usize),
 }
 
-// 65,537 zeros: one byte more than a dump may have, so that a longer input is seen. The `ensures` gives only the length,
-// so that no proof above meets the cells.
+// 65,537 zeros: one byte more than a dump may have, so that a longer input is seen; it is refused whatever follows. The
+// `ensures` gives only the length, so that no proof above meets the cells.
 fn dump_buffer() -> [u8; 65537]
     ensures { λ r. ⌜ 65537 ≡ length r ⌝ }
 {

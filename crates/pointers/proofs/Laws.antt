@@ -2,24 +2,25 @@
 -- of a region's candidates. Assumes nothing.
 use Prim.Native.Nat.{ℕ, zero, suc, _+_, _-_, _≤_, _<_}
 use mathlib.Core.Path.{_≡_, refl, ap, sym, _∙_}
-use mathlib.Core.Bool.{Bool, true, false, _&&_, and-false}
+use mathlib.Core.Bool.{Bool, true, false, _||_, _&&_, and-false}
 use mathlib.Core.List.{List, [], _∷_}
 use native.Mathlib.Omega.{arith}
 use native.Mathlib.Nat.{add-zero, add-assoc}
 use lib.ListN.{length, take, drop, length-drop}
 use lib.Seq.{take-all}
 use lib.Dec.{eqb, ltb}
-use borrow.Author.Tests.{eq-eqb, ne-eqb, ltb-true, ltb-false}
+use borrow.Author.Tests.{eq-eqb, ne-eqb, eqb-false, ltb-true, ltb-false}
 use Rattle.mps.specs.Words.{text, same, part, cut, keep}
 use Rattle.mps.specs.Numbers.{le, bytes}
 use Rattle.mps.specs.Sums.{sum256}
 use Rattle.mps.specs.Layout.{pointerSize, pointerParagraphs, oneParagraph}
 use Rattle.mps.specs.Pointer.{Candidate, addressed, sixteen, good, goodOne}
-use Rattle.laws.proofs.Tests.{whether, contrary}
+use Rattle.laws.proofs.Tests.{whether, contrary, or-parts}
 use Rattle.laws.proofs.Lists.{keep-in, keep-out}
 use Rattle.laws.proofs.Small.{Bytes}
+use Rattle.laws.proofs.Parts.{length-part}
 use Rattle.laws.proofs.Cut.{cut-done, cut-next}
-use Rattle.numbers.proofs.Laws.{le-take, bytes-le}
+use Rattle.numbers.proofs.Laws.{le-take, le-row, bytes-le}
 use Rattle.slices.proofs.Laws.{same-is, same-true}
 use Rattle.pointers.specs.declared.Searched.{Searched}
 use Rattle.pointers.specs.declared.Searched.the-variants.{At, Nothing}
@@ -109,6 +110,31 @@ module _ (s : List ℕ) (at : ℕ) where
     unfolding firstGood
     left-next f = rw (pieces-next s at h, ← e, f)
 
+-- Four paragraphs at once: the step over one that does not begin with the signature, at place i of their 64 bytes.
+module _ (s : List ℕ) (at : ℕ) (h : at + 64 ≤ length s) where
+  left-over :
+      (i : ℕ) {x : ℕ} → i + pointerSize ≤ 64 → x ≡ le 4 (part at (at + 64) s) i → eqb x signatureNumber ≡ false
+      → left s (at + i) ≡ left s (at + (i + pointerSize))
+  left-over i {x} l e f =
+      let p = part (at + i) (at + i + pointerSize) s in
+      let n : x ≡ le 4 p 0 =
+      e ∙ le-row 4 (at + 64 - at) s at i (omega arith)
+      ∙ sym (rw add-zero at (le-row 4 (at + i + pointerSize - (at + i)) s (at + i) 0 (omega arith))) in
+      let w : length p ≡ pointerSize = length-part (at + i) (at + i + pointerSize) s (omega arith) ∙ omega arith in
+      rw (← add-assoc at i pointerSize) (left-next s (at + i) (omega arith) (is-unsigned p w n (eqb-false x signatureNumber f)) refl)
+
+  pub left-four :
+      {a b c d : ℕ} → a ≡ le 4 (part at (at + 64) s) 0 → b ≡ le 4 (part at (at + 64) s) 16 → c ≡ le 4 (part at (at + 64) s) 32
+      → d ≡ le 4 (part at (at + 64) s) 48
+      → (((eqb a signatureNumber || eqb b signatureNumber) || eqb c signatureNumber) || eqb d signatureNumber) ≡ false
+      → left s at ≡ left s (at + 64)
+  left-four p q r t f =
+      let x = or-parts _ _ f in
+      let y = or-parts _ _ (x .0) in
+      let z = or-parts _ _ (y .0) in
+      rw add-zero at (left-over 0 (omega arith) p (z .0)) ∙ left-over 16 (omega arith) q (z .1) ∙ left-over 32 (omega arith) r (y .1)
+      ∙ left-over 48 (omega arith) t (x .1)
+
 -- What the loop keeps: what is left answers as the whole does.
 abbrev pub Seeks : List ℕ → ℕ → Type 0
 Seeks s at = (left s at ≡ searchOf s) × (at ≤ length s)
@@ -123,6 +149,10 @@ module _ (s : List ℕ) (at : ℕ) (inv : Seeks s at) where
 
     pub seeks-next : r ≡ false → Seeks s (at + pointerSize)
     seeks-next f = (sym (left-next s at h e f) ∙ inv .0, omega (arith, h, inv .1))
+
+-- .. over four paragraphs.
+pub seeks-four : (s : List ℕ) (at : ℕ) → Seeks s at → 64 ≤ length s - at → left s at ≡ left s (at + 64) → Seeks s (at + 64)
+seeks-four s at inv h e = (sym e ∙ inv .0, omega (arith, h, inv .1))
 
 pub seeks-start : (s : List ℕ) → Seeks s 0
 unfolding searchOf

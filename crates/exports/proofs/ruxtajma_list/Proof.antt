@@ -1,47 +1,36 @@
+-- Each answer by the number that stands for it.
 use mathlib.Core.Path.{sym, _∙_}
 use borrow.Author.Needs.{needs}
 use Rattle.exports.proofs.Laws.{is-count, is-number}
 use Rattle.exports.proofs.ruxtajma_list.Statement.{statement}
 use Rattle.exports.proofs.ruxtajma_list.Tie as tie
-use Rattle.exports.proofs.ruxtajma_list.Reads as reads
-use Rattle.exports.proofs.ruxtajma_list.Lts as lts
-use Rattle.listing.proofs.list.Reads as list-reads
 
--- src/lib.rt:29:9
 list-requires : tie.Need-list-requires
 list-requires c κs = search needs
 
--- src/lib.rt:31:24
 enum-known-answer : tie.Need-enum-known-answer
 enum-known-answer c = search needs
 
--- src/lib.rt:32:26
 enum-known-answer-2 : tie.Need-enum-known-answer-2
 enum-known-answer-2 c = search needs
 
--- src/lib.rt:32:32
 cast-result : tie.Need-cast-result
 cast-result c = search needs
 
--- src/lib.rt:32:32
 mul-result : tie.Need-mul-result
 mul-result c = search needs
 
--- src/lib.rt:24:1
 same-length : tie.Need-same-length
 same-length c = search needs
 
--- src/lib.rt:24:1
 returns : tie.Need-returns
 returns c =
     let l = c .before .before .before .before .before .list in
     (is-count _ (sym (c .before .answer .given .1) ∙ l .ensures .0), l .ensures .1)
 
--- src/lib.rt:24:1
 same-length-2 : tie.Need-same-length-2
 same-length-2 c = search needs
 
--- src/lib.rt:24:1
 returns-2 : tie.Need-returns-2
 returns-2 c =
     let l = c .before .before .before .before .before .list in

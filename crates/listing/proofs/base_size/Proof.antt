@@ -1,14 +1,11 @@
+-- The two ways of the definition's choice.
 use Rattle.listing.proofs.Walk.{size-processor, size-other}
 use Rattle.listing.proofs.base_size.Statement.{statement}
 use Rattle.listing.proofs.base_size.Tie as tie
-use Rattle.listing.proofs.base_size.Reads as reads
-use Rattle.listing.proofs.base_size.Lts as lts
 
--- src/lib.rt:31:9
 returns : tie.Need-returns
 returns c = size-processor (c .if1 .taken)
 
--- src/lib.rt:27:1
 returns-2 : tie.Need-returns-2
 returns-2 c = size-other (c .if1 .left)
 

@@ -1,16 +1,11 @@
+-- The three answers of the dump reader: its refusal is the listing's, and each text goes into the room as any answer does.
 use mathlib.Core.Path.{_≡_, sym, _∙_}
-use native.Mathlib.Omega.{arith}
 use borrow.Author.Needs.{needs}
 use Rattle.mps.specs.Judge.{dumpRefusal}
 use Rattle.dump.proofs.Laws.{Pointed, held-number, held-default, held-table}
 use Rattle.listing.proofs.Laws.{list-refused, list-written, default-text, table-text}
 use Rattle.listing.proofs.list.Statement.{statement}
 use Rattle.listing.proofs.list.Tie as tie
-use Rattle.listing.proofs.list.Reads as reads
-use Rattle.listing.proofs.list.Lts as lts
-use Rattle.dump.proofs.read.Reads as read-reads
-use Rattle.listing.proofs.list_default.Reads as list-default-reads
-use Rattle.listing.proofs.list_table.Reads as list-table-reads
 
 -- The table that was found: the dump is accepted, and the table's bytes lie inside it.
 found :
@@ -24,48 +19,38 @@ found c =
     held-table (c .before .before .before .before .before .before .args .d .now) (f .0) (f .1 .0) (f .1 .1 .0) (f .1 .1 .1 .0) (f .1 .1 .1 .1 .0)
     (sym (c .before .before .before .read .ensures) ∙ m .1)
 
--- src/lib.rt:146:9
 read-requires : tie.Need-read-requires
 read-requires c κs = search needs
 
--- src/lib.rt:148:23
 enum-known-found : tie.Need-enum-known-found
 enum-known-found c = search needs
 
--- src/lib.rt:149:25
 enum-known-found-2 : tie.Need-enum-known-found-2
 enum-known-found-2 c = search needs
 
--- src/lib.rt:149:43
 list-default-requires : tie.Need-list-default-requires
 list-default-requires c κs = search needs
 
--- src/lib.rt:151:13
 enum-known-found-3 : tie.Need-enum-known-found-3
 enum-known-found-3 c = search needs
 
--- src/lib.rt:156:25
 sub-list-table : tie.Need-sub-list-table
 sub-list-table c =
     found c .1 .order
 
--- src/lib.rt:156:25
 part-list-table-start : tie.Need-part-list-table-start
 part-list-table-start c =
     found c .1 .order
 
--- src/lib.rt:156:25
 part-list-table-end : tie.Need-part-list-table-end
 part-list-table-end c =
     found c .1 .inside
 
--- src/lib.rt:156:14
 list-table-requires : tie.Need-list-table-requires
 list-table-requires c κs =
     let h = found (c .before .before) in
     sym (h .1 .rules) ∙ h .0
 
--- src/lib.rt:142:1
 returns : tie.Need-returns
 returns c =
     let m = c .before .found .given in
@@ -73,11 +58,9 @@ returns c =
     let h = held-number (a .d .now) (m .0 .0) (sym (c .before .before .before .read .ensures) ∙ m .1) in
     list-refused (a .d .now) (a .out .now) (m .0 .0) (h .0) (h .1)
 
--- src/lib.rt:142:1
 same-length : tie.Need-same-length
 same-length c = search needs
 
--- src/lib.rt:142:1
 returns-2 : tie.Need-returns-2
 returns-2 c =
     let m = c .before .before .before .before .before .found2 .given in
@@ -85,11 +68,9 @@ returns-2 c =
     let h = held-default (a .d .now) (m .0 .0) (m .0 .1 .0) (sym (c .before .before .before .before .before .before .before .read .ensures) ∙ m .1) in
     list-written (a .d .now) (a .out .now) (h .0) (default-text (a .d .now) (h .1) (h .2) (h .3)) (c .before .before .list-default .ensures)
 
--- src/lib.rt:142:1
 same-length-2 : tie.Need-same-length-2
 same-length-2 c = search needs
 
--- src/lib.rt:142:1
 returns-3 : tie.Need-returns-3
 returns-3 c =
     let h = found (c .before .before .before .before .before) in

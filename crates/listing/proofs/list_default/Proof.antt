@@ -1,44 +1,34 @@
+-- The line is measured in no room, then written where it fits.
 use borrow.Author.Needs.{needs}
 use Rattle.mps.specs.Listing.{defaultLine}
 use Rattle.listing.proofs.Laws.{too-long, it-fits}
 use Rattle.listing.proofs.list_default.Statement.{statement}
 use Rattle.listing.proofs.list_default.Tie as tie
-use Rattle.listing.proofs.list_default.Reads as reads
-use Rattle.listing.proofs.list_default.Lts as lts
-use Rattle.lines.proofs.frame.default.Reads as default-reads
 
--- src/lib.rt:123:30
 slice-relend-prefix-default : tie.Need-slice-relend-prefix-default
 slice-relend-prefix-default c = search needs
 
--- src/lib.rt:123:30
 slice-aggregate-default : tie.Need-slice-aggregate-default
 slice-aggregate-default c = search needs
 
--- src/lib.rt:123:9
 default-requires : tie.Need-default-requires
 default-requires c κs = search needs
 
--- src/lib.rt:125:9
 same-length : tie.Need-same-length
 same-length c = search needs
 
--- src/lib.rt:125:9
 returns : tie.Need-returns
 returns c =
     let p = c .before .before .before .default in
     let a = c .before .before .before .before .before .before .args in
     too-long (defaultLine (a .number) (a .imcr)) (a .out .now) (p .last .0) (p .ensures .1) (p .ensures .0) (c .if1 .taken)
 
--- src/lib.rt:127:5
 default-requires-2 : tie.Need-default-requires-2
 default-requires-2 c κs = search needs
 
--- src/lib.rt:119:1
 same-length-2 : tie.Need-same-length-2
 same-length-2 c = search needs
 
--- src/lib.rt:119:1
 returns-2 : tie.Need-returns-2
 returns-2 c =
     let q = c .before .before .default2 in

@@ -1,44 +1,34 @@
+-- The listing is measured in no room, then written where it fits.
 use borrow.Author.Needs.{needs}
 use Rattle.listing.specs.Fits.{tableText}
 use Rattle.listing.proofs.Laws.{too-long, it-fits}
 use Rattle.listing.proofs.list_measured.Statement.{statement}
 use Rattle.listing.proofs.list_measured.Tie as tie
-use Rattle.listing.proofs.list_measured.Reads as reads
-use Rattle.listing.proofs.list_measured.Lts as lts
-use Rattle.listing.proofs.put_table.Reads as put-table-reads
 
--- src/lib.rt:111:26
 slice-relend-prefix-put-table : tie.Need-slice-relend-prefix-put-table
 slice-relend-prefix-put-table c = search needs
 
--- src/lib.rt:111:26
 slice-aggregate-put-table : tie.Need-slice-aggregate-put-table
 slice-aggregate-put-table c = search needs
 
--- src/lib.rt:111:9
 put-table-requires : tie.Need-put-table-requires
 put-table-requires c κs = search needs
 
--- src/lib.rt:113:9
 same-length : tie.Need-same-length
 same-length c = search needs
 
--- src/lib.rt:113:9
 returns : tie.Need-returns
 returns c =
     let p = c .before .before .before .put-table in
     let a = c .before .before .before .before .before .before .before .args in
     too-long (tableText (a .pointer) (a .imcr) (a .address) (a .t .now)) (a .out .now) (p .last .0) (p .ensures .1) (p .ensures .0) (c .if1 .taken)
 
--- src/lib.rt:115:5
 put-table-requires-2 : tie.Need-put-table-requires-2
 put-table-requires-2 c κs = search needs
 
--- src/lib.rt:106:1
 same-length-2 : tie.Need-same-length-2
 same-length-2 c = search needs
 
--- src/lib.rt:106:1
 returns-2 : tie.Need-returns-2
 returns-2 c =
     let q = c .before .before .put-table2 in

@@ -1,44 +1,34 @@
+-- The line is measured in no room, then written where it fits.
 use borrow.Author.Needs.{needs}
 use Rattle.mps.specs.Listing.{refusedLine}
 use Rattle.listing.proofs.Laws.{too-long, it-fits}
 use Rattle.listing.proofs.print_refused.Statement.{statement}
 use Rattle.listing.proofs.print_refused.Tie as tie
-use Rattle.listing.proofs.print_refused.Reads as reads
-use Rattle.listing.proofs.print_refused.Lts as lts
-use Rattle.lines.proofs.frame.refused.Reads as refused-reads
 
--- src/lib.rt:135:30
 slice-relend-prefix-refused : tie.Need-slice-relend-prefix-refused
 slice-relend-prefix-refused c = search needs
 
--- src/lib.rt:135:30
 slice-aggregate-refused : tie.Need-slice-aggregate-refused
 slice-aggregate-refused c = search needs
 
--- src/lib.rt:135:9
 refused-requires : tie.Need-refused-requires
 refused-requires c κs = search needs
 
--- src/lib.rt:137:9
 same-length : tie.Need-same-length
 same-length c = search needs
 
--- src/lib.rt:137:9
 returns : tie.Need-returns
 returns c =
     let p = c .before .before .before .refused in
     let a = c .before .before .before .before .before .before .args in
     too-long (refusedLine (a .number)) (a .out .now) (p .last .0) (p .ensures .1) (p .ensures .0) (c .if1 .taken)
 
--- src/lib.rt:139:5
 refused-requires-2 : tie.Need-refused-requires-2
 refused-requires-2 c κs = search needs
 
--- src/lib.rt:131:1
 same-length-2 : tie.Need-same-length-2
 same-length-2 c = search needs
 
--- src/lib.rt:131:1
 returns-2 : tie.Need-returns-2
 returns-2 c =
     let q = c .before .before .refused2 in

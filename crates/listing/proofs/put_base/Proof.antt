@@ -1,3 +1,4 @@
+-- What is written and the lines of the rest make the whole (`Going`).
 use Prim.Native.Nat.{_-_}
 use native.Mathlib.Omega.{arith}
 use lib.ListN.{length}
@@ -9,11 +10,6 @@ use Rattle.listing.proofs.Walk.{Going, going-first, going-next, going-d
 use Rattle.listing.proofs.Most.{base-most}
 use Rattle.listing.proofs.put_base.Statement.{statement}
 use Rattle.listing.proofs.put_base.Tie as tie
-use Rattle.listing.proofs.put_base.Reads as reads
-use Rattle.listing.proofs.put_base.Lts as lts
-use Rattle.listing.proofs.base_size.Reads as base-size-reads
-use Rattle.listing.proofs.ending.Reads as ending-reads
-use Rattle.lines.proofs.base.line.Reads as line-reads
 
 abbrev Inv-loop : tie.InvT-loop
 Inv-loop out₀ at s place₀ i₀ out place i = Going baseEntryLength baseLine out₀ at s out place i
@@ -21,41 +17,32 @@ Inv-loop out₀ at s place₀ i₀ out place i = Going baseEntryLength baseLine 
 abbrev μ-loop : tie.MeasureT-loop
 μ-loop out₀ at s place₀ i₀ out place i = length s - i
 
--- src/lib.rt:55:5
 loop-holds : tie.Need-loop-holds Inv-loop μ-loop
 loop-holds c =
     let a = c .before .before .args in
     going-first baseEntryLength baseLine (a .out .now) (a .at) (a .s .now)
 
--- src/lib.rt:56:42
 shared-slice-read-base-size : tie.Need-shared-slice-read-base-size Inv-loop μ-loop
 shared-slice-read-base-size c = search needs
 
--- src/lib.rt:56:32
 base-size-requires : tie.Need-base-size-requires Inv-loop μ-loop
 base-size-requires c κs = search needs
 
--- src/lib.rt:56:13
 ending-requires : tie.Need-ending-requires Inv-loop μ-loop
 ending-requires c κs = search needs
 
--- src/lib.rt:57:46
 sub-line : tie.Need-sub-line Inv-loop μ-loop
 sub-line c = search needs
 
--- src/lib.rt:57:46
 part-line-start : tie.Need-part-line-start Inv-loop μ-loop
 part-line-start c = search needs
 
--- src/lib.rt:57:46
 part-line-end : tie.Need-part-line-end Inv-loop μ-loop
 part-line-end c = search needs
 
--- src/lib.rt:57:18
 line-requires : tie.Need-line-requires Inv-loop μ-loop
 line-requires c κs = search needs
 
--- src/lib.rt:57:9
 add-place : tie.Need-add-place Inv-loop μ-loop
 add-place c =
     let l = c .before .before .before .before .before .before .before .before .before in
@@ -64,7 +51,6 @@ add-place c =
     let w = l .loop .inv .within in
     omega (arith, base-most (part (l .loop .i) e (l .before .before .before .args .s .now)))
 
--- src/lib.rt:55:5
 loop-less : tie.Need-loop-less Inv-loop μ-loop
 loop-less c =
     let l = c .before .before .before .before .before .before .before .before .before in
@@ -72,7 +58,6 @@ loop-less c =
     let s = l .before .before .before .args .s .now in
     omega (arith, base-ends s (l .loop .i) (z .before .base-size .ensures) (z .ending .ensures) (c .before .before .before .before .before .before .before .before .loop-test .taken) .1)
 
--- src/lib.rt:55:5
 loop-again : tie.Need-loop-again Inv-loop μ-loop
 loop-again c =
     let p = c .before .before .line in
@@ -84,11 +69,9 @@ loop-again c =
     going-next baseEntryLength baseLine (p .result) (z .ending .result) (z .ending .result) (l .loop .inv) t (k .0) (k .1) (p .ensures .0)
     (omega (arith, base-most (part (l .loop .i) (z .ending .result) s), p .ensures .0)) (p .ensures .1)
 
--- src/lib.rt:48:1
 same-length : tie.Need-same-length Inv-loop μ-loop
 same-length c = c .before .loop .inv .room
 
--- src/lib.rt:48:1
 returns : tie.Need-returns Inv-loop μ-loop
 returns c = going-done baseEntryLength baseLine (c .before .loop .inv) (c .loop-test .left)
 

@@ -1,3 +1,4 @@
+-- What is written and the lines of the rest make the whole (`Going`).
 use Prim.Native.Nat.{_-_}
 use mathlib.Core.Path.{_∙_}
 use native.Mathlib.Omega.{arith}
@@ -10,13 +11,6 @@ use Rattle.listing.proofs.Walk.{Going, going-first, going-next, going-d
 use Rattle.listing.proofs.Most.{extended-most}
 use Rattle.listing.proofs.put_extended.Statement.{statement}
 use Rattle.listing.proofs.put_extended.Tie as tie
-use Rattle.listing.proofs.put_extended.Reads as reads
-use Rattle.listing.proofs.put_extended.Lts as lts
-use Rattle.listing.proofs.behind.Reads as behind-reads
-use Rattle.listing.proofs.ending.Reads as ending-reads
-use Rattle.lines.proofs.extended.line.Reads as line-reads
-use Rattle.numbers.proofs.byte.Reads as byte-reads
-use Rattle.numbers.proofs.wide.Reads as wide-reads
 
 abbrev Inv-loop : tie.InvT-loop
 Inv-loop out₀ at s place₀ i₀ out place i = Going extendedEntryLength extendedLine out₀ at s out place i
@@ -24,45 +18,35 @@ Inv-loop out₀ at s place₀ i₀ out place i = Going extendedEntryLength exten
 abbrev μ-loop : tie.MeasureT-loop
 μ-loop out₀ at s place₀ i₀ out place i = length s - i
 
--- src/lib.rt:79:5
 loop-holds : tie.Need-loop-holds Inv-loop μ-loop
 loop-holds c =
     let a = c .before .before .args in
     going-first extendedEntryLength extendedLine (a .out .now) (a .at) (a .s .now)
 
--- src/lib.rt:80:51
 add-byte : tie.Need-add-byte Inv-loop μ-loop
 add-byte c = search needs
 
--- src/lib.rt:80:34
 byte-requires : tie.Need-byte-requires Inv-loop μ-loop
 byte-requires c κs = search needs
 
--- src/lib.rt:80:20
 wide-requires : tie.Need-wide-requires Inv-loop μ-loop
 wide-requires c κs = search needs
 
--- src/lib.rt:81:13
 ending-requires : tie.Need-ending-requires Inv-loop μ-loop
 ending-requires c κs = search needs
 
--- src/lib.rt:82:50
 sub-line : tie.Need-sub-line Inv-loop μ-loop
 sub-line c = search needs
 
--- src/lib.rt:82:50
 part-line-start : tie.Need-part-line-start Inv-loop μ-loop
 part-line-start c = search needs
 
--- src/lib.rt:82:50
 part-line-end : tie.Need-part-line-end Inv-loop μ-loop
 part-line-end c = search needs
 
--- src/lib.rt:82:18
 line-requires : tie.Need-line-requires Inv-loop μ-loop
 line-requires c κs = search needs
 
--- src/lib.rt:82:9
 add-place : tie.Need-add-place Inv-loop μ-loop
 add-place c =
     let z = c .before .before .before .before .before in
@@ -71,15 +55,12 @@ add-place c =
     let w = l .loop .inv .within in
     omega (arith, extended-most (part (l .loop .i) (z .ending .result) (l .before .before .before .args .s .now)))
 
--- src/lib.rt:83:9
 behind-requires : tie.Need-behind-requires Inv-loop μ-loop
 behind-requires c κs = search needs
 
--- src/lib.rt:79:5
 loop-less : tie.Need-loop-less Inv-loop μ-loop
 loop-less c = search needs
 
--- src/lib.rt:79:5
 loop-again : tie.Need-loop-again Inv-loop μ-loop
 loop-again c =
     let p = c .before .before .before .line in
@@ -91,11 +72,9 @@ loop-again c =
     going-next extendedEntryLength extendedLine (p .result) (z .ending .result) (c .behind .result) (l .loop .inv) t k (c .behind .ensures) (p .ensures .0)
     (omega (arith, extended-most (part (l .loop .i) (z .ending .result) s), p .ensures .0)) (p .ensures .1)
 
--- src/lib.rt:72:1
 same-length : tie.Need-same-length Inv-loop μ-loop
 same-length c = c .before .loop .inv .room
 
--- src/lib.rt:72:1
 returns : tie.Need-returns Inv-loop μ-loop
 returns c = going-done extendedEntryLength extendedLine (c .before .loop .inv) (c .loop-test .left)
 

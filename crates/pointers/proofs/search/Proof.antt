@@ -3,7 +3,7 @@ use Prim.Native.Nat.{_-_}
 use native.Mathlib.Omega.{arith}
 use lib.ListN.{length}
 use borrow.Author.Needs.{needs}
-use Rattle.pointers.proofs.Laws.{Seeks, seeks-start, seeks-done, seeks-stop, seeks-next}
+use Rattle.pointers.proofs.Laws.{Seeks, seeks-done, seeks-stop, seeks-next}
 use Rattle.pointers.proofs.search.Statement.{statement}
 use Rattle.pointers.proofs.search.Tie as tie
 
@@ -13,8 +13,11 @@ Inv-loop s at₀ at = Seeks s at
 abbrev μ-loop : tie.MeasureT-loop
 μ-loop s at₀ at = length s - at
 
+passed-requires : tie.Need-passed-requires Inv-loop μ-loop
+passed-requires c κs = search needs
+
 loop-holds : tie.Need-loop-holds Inv-loop μ-loop
-loop-holds c = seeks-start _
+loop-holds c = c .passed .ensures
 
 sub-loop : tie.Need-sub-loop Inv-loop μ-loop
 sub-loop c = search needs
@@ -59,6 +62,7 @@ search-spec =
     (tie.spec
     Inv-loop
     μ-loop
+    passed-requires
     loop-holds
     sub-loop
     add-good

@@ -8,17 +8,10 @@ use borrow.Author.Needs.{needs}
 use Rattle.laws.proofs.Tests.{and-parts}
 use Rattle.text.proofs.decimal.Statement.{statement}
 use Rattle.text.proofs.decimal.Tie as tie
-use Rattle.text.proofs.decimal.Reads as reads
-use Rattle.text.proofs.decimal.Lts as lts
-use Rattle.text.proofs.any_decimal.Reads as any-decimal-reads
-use Rattle.text.proofs.has_four.Reads as has-four-reads
-use Rattle.text.proofs.short_decimal.Reads as short-decimal-reads
 
--- src/lib.rt:126:8
 has-four-requires : tie.Need-has-four-requires
 has-four-requires c κs = search needs
 
--- src/lib.rt:127:9
 short-decimal-requires : tie.Need-short-decimal-requires
 short-decimal-requires c κs =
     let f = c .before .before .has-four in
@@ -26,23 +19,18 @@ short-decimal-requires c κs =
     let p = and-parts (f .result) (ltb (a .x) 1000) (c .before .if1 .taken) in
     (leb-true (a .at + 4) (length (a .out .now)) (sym (f .ensures) ∙ p .0), ltb-true (a .x) 1000 (p .1))
 
--- src/lib.rt:127:9
 same-length : tie.Need-same-length
 same-length c = search needs
 
--- src/lib.rt:127:9
 returns : tie.Need-returns
 returns c = search needs
 
--- src/lib.rt:129:5
 any-decimal-requires : tie.Need-any-decimal-requires
 any-decimal-requires c κs = search needs
 
--- src/lib.rt:122:1
 same-length-2 : tie.Need-same-length-2
 same-length-2 c = search needs
 
--- src/lib.rt:122:1
 returns-2 : tie.Need-returns-2
 returns-2 c = search needs
 

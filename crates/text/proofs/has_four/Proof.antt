@@ -5,18 +5,13 @@ use borrow.Author.Needs.{needs}
 use Rattle.text.proofs.Laws.{four-left, four-past}
 use Rattle.text.proofs.has_four.Statement.{statement}
 use Rattle.text.proofs.has_four.Tie as tie
-use Rattle.text.proofs.has_four.Reads as reads
-use Rattle.text.proofs.has_four.Lts as lts
 
--- src/lib.rt:92:21
 sub-result : tie.Need-sub-result
 sub-result c = search needs
 
--- src/lib.rt:92:9
 returns : tie.Need-returns
 returns c = four-left (c .before .args .at) (length (c .before .args .out .now)) (omega arith)
 
--- src/lib.rt:88:1
 returns-2 : tie.Need-returns-2
 returns-2 c = four-past (c .before .args .at) (length (c .before .args .out .now)) (omega arith)
 

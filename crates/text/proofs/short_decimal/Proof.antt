@@ -1,145 +1,111 @@
+-- One, two or three digits, stored one behind the other: `stored-1` to `stored-3`.
 use native.Mathlib.Omega.{arith}
 use lib.ListN.{length-set}
 use borrow.Author.Needs.{needs}
 use Rattle.text.proofs.Laws.{stored-1, stored-2, stored-3}
 use Rattle.text.proofs.short_decimal.Statement.{statement}
 use Rattle.text.proofs.short_decimal.Tie as tie
-use Rattle.text.proofs.short_decimal.Reads as reads
-use Rattle.text.proofs.short_decimal.Lts as lts
 
--- src/lib.rt:104:24
 cast-out : tie.Need-cast-out
 cast-out c = search needs
 
--- src/lib.rt:104:19
 add-out : tie.Need-add-out
 add-out c = search needs
 
--- src/lib.rt:104:9
 slice-write-out : tie.Need-slice-write-out
 slice-write-out c = search needs
 
--- src/lib.rt:105:13
 add-out-2 : tie.Need-add-out-2
 add-out-2 c = search needs
 
--- src/lib.rt:105:9
 slice-write-out-2 : tie.Need-slice-write-out-2
 slice-write-out-2 c = simp length-set (omega arith)
 
--- src/lib.rt:106:9
 same-length : tie.Need-same-length
 same-length c = search needs
 
--- src/lib.rt:106:9
 returns : tie.Need-returns
 returns c =
     let a = c .before .args in
     stored-1 (a .x) (a .last) (a .out .now) (a .at) (omega arith)
 
--- src/lib.rt:109:24
 cast-out-2 : tie.Need-cast-out-2
 cast-out-2 c = search needs
 
--- src/lib.rt:109:19
 add-out-3 : tie.Need-add-out-3
 add-out-3 c = search needs
 
--- src/lib.rt:109:9
 slice-write-out-3 : tie.Need-slice-write-out-3
 slice-write-out-3 c = search needs
 
--- src/lib.rt:110:28
 cast-out-3 : tie.Need-cast-out-3
 cast-out-3 c = search needs
 
--- src/lib.rt:110:23
 add-out-4 : tie.Need-add-out-4
 add-out-4 c = search needs
 
--- src/lib.rt:110:13
 add-out-5 : tie.Need-add-out-5
 add-out-5 c = search needs
 
--- src/lib.rt:110:9
 slice-write-out-4 : tie.Need-slice-write-out-4
 slice-write-out-4 c = simp length-set (omega arith)
 
--- src/lib.rt:111:13
 add-out-6 : tie.Need-add-out-6
 add-out-6 c = search needs
 
--- src/lib.rt:111:9
 slice-write-out-5 : tie.Need-slice-write-out-5
 slice-write-out-5 c = simp length-set (omega arith)
 
--- src/lib.rt:112:9
 same-length-2 : tie.Need-same-length-2
 same-length-2 c = search needs
 
--- src/lib.rt:112:9
 returns-2 : tie.Need-returns-2
 returns-2 c =
     let a = c .before .before .args in
     stored-2 (a .x) (a .last) (a .out .now) (a .at) (omega arith) (omega arith)
 
--- src/lib.rt:114:20
 cast-out-4 : tie.Need-cast-out-4
 cast-out-4 c = search needs
 
--- src/lib.rt:114:15
 add-out-7 : tie.Need-add-out-7
 add-out-7 c = search needs
 
--- src/lib.rt:114:5
 slice-write-out-6 : tie.Need-slice-write-out-6
 slice-write-out-6 c = search needs
 
--- src/lib.rt:115:24
 cast-out-5 : tie.Need-cast-out-5
 cast-out-5 c = search needs
 
--- src/lib.rt:115:19
 add-out-8 : tie.Need-add-out-8
 add-out-8 c = search needs
 
--- src/lib.rt:115:9
 add-out-9 : tie.Need-add-out-9
 add-out-9 c = search needs
 
--- src/lib.rt:115:5
 slice-write-out-7 : tie.Need-slice-write-out-7
 slice-write-out-7 c = simp length-set (omega arith)
 
--- src/lib.rt:116:24
 cast-out-6 : tie.Need-cast-out-6
 cast-out-6 c = search needs
 
--- src/lib.rt:116:19
 add-out-10 : tie.Need-add-out-10
 add-out-10 c = search needs
 
--- src/lib.rt:116:9
 add-out-11 : tie.Need-add-out-11
 add-out-11 c = search needs
 
--- src/lib.rt:116:5
 slice-write-out-8 : tie.Need-slice-write-out-8
 slice-write-out-8 c = simp length-set (omega arith)
 
--- src/lib.rt:117:9
 add-out-12 : tie.Need-add-out-12
 add-out-12 c = search needs
 
--- src/lib.rt:117:5
 slice-write-out-9 : tie.Need-slice-write-out-9
 slice-write-out-9 c = simp length-set (omega arith)
 
--- src/lib.rt:98:1
 same-length-3 : tie.Need-same-length-3
 same-length-3 c = search needs
 
--- src/lib.rt:98:1
 returns-3 : tie.Need-returns-3
 returns-3 c =
     let a = c .before .before .args in
