@@ -2,7 +2,7 @@
 use Prim.Native.Nat.{ℕ, _+_, _%_, _≤_}
 use mathlib.Core.Path.{_≡_, refl, ap, sym, _∙_}
 use mathlib.Core.Bool.{Bool, true, _&&_, true≢false}
-use mathlib.Core.List.{List, [], _∷_, _++_, append-assoc, append-nil}
+use mathlib.Core.List.{List, [], _∷_, _++_, append-nil}
 use native.Mathlib.Omega.{arith}
 use lib.ListN.{length, take}
 use lib.Dec.{leb, eqb}
@@ -13,6 +13,7 @@ use Rattle.mps.specs.Dump.{endOf, body, ofKind, regions, kindRule, soundRegion,
 use Rattle.mps.specs.Pointer.{Candidate, candidates, addressed, goodOne, searched, pointers}
 use Rattle.mps.specs.declared.Region.{Region}
 use Rattle.laws.proofs.Tests.{whether, and-parts}
+use Rattle.laws.proofs.Lists.{keep-append, joined-append}
 use Rattle.laws.proofs.Parts.{length-part, part-part}
 use Rattle.regions.specs.Regions.{blank, eight, firstOfKind}
 use Rattle.regions.proofs.Firsts.{first-all}
@@ -25,18 +26,6 @@ use Rattle.pointers.proofs.Laws.{none-found, found-first}
 use Rattle.dump.specs.Spotted.{searchedFirst, SpotsAt, Spots}
 use Rattle.dump.specs.declared.Spotted.{Spotted}
 use Rattle.dump.specs.declared.Spotted.the-variants.{At, Nowhere}
-
--- ---- Two lists, one behind the other
-
-keep-append : {A : Type 0} (p : A → Bool) (xs ys : List A) → keep p (xs ++ ys) ≡ keep p xs ++ keep p ys
-unfolding keep
-keep-append p [] ys = refl
-keep-append p (x ∷ xs) ys = whether (p x) (λ t. rw (t, keep, keep-append p xs ys)) (λ f. rw (f, keep, keep-append p xs ys))
-
-joined-append : {A B : Type 0} (f : A → List B) (xs ys : List A) → joined f (xs ++ ys) ≡ joined f xs ++ joined f ys
-unfolding joined
-joined-append f [] ys = refl
-joined-append f (x ∷ xs) ys = rw (joined-append f xs ys) (sym (append-assoc (f x) (joined f xs) (joined f ys)))
 
 -- ---- The regions that are searched
 

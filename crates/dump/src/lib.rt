@@ -72,7 +72,7 @@ fn spot(d: &[u8], rs: [Region; 8]) -> Spotted
     let spotted = spot_in(d, searched_first(rs));
     match spotted {
         Spotted::At { address, place } => spotted,
-        Spotted::Nowhere => spot_in(d, regions::of_kind(rs, regions::BIOS_ROM)),
+        Spotted::Nowhere => spot_in(d, regions::of_kind(rs, layout::BIOS_ROM)),
     }
 }
 
@@ -80,11 +80,11 @@ fn spot(d: &[u8], rs: [Region; 8]) -> Spotted
 fn searched_first(rs: [Region; 8]) -> Region
     ensures { λ r. ⌜ r ≡ searchedFirst (take 8 rs) ⌝ }
 {
-    let r = regions::of_kind(rs, regions::EBDA);
-    if r.kind == regions::EBDA {
+    let r = regions::of_kind(rs, layout::EBDA);
+    if r.kind == layout::EBDA {
         return r;
     }
-    regions::of_kind(rs, regions::BASE_MEMORY)
+    regions::of_kind(rs, layout::BASE_MEMORY)
 }
 
 fn spot_in(d: &[u8], r: Region) -> Spotted
@@ -114,6 +114,7 @@ fn said(d: &[u8], rs: [Region; 8], address: u32, place: usize) -> Held
         return Held::Refused(3);
     }
     let number = p[layout::FEATURE_1];
+    // Bit 7.
     let imcr = p[layout::FEATURE_2] / 128;
     let table = numbers::le32(p, layout::POINTER_TABLE);
     if layout::DEFAULT_MOST < number {

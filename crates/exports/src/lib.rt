@@ -1,13 +1,18 @@
 // The calls for C: the proved library under plain names, for a static library (`rt staticlib exports`).
 //
-// Promised: each call answers the paper's numbers, 0 for accepted and else the refusal's, of any bytes; the definitions
-// stand in mps's specs/Judge.antt and specs/Listing.antt, and how an answer becomes one number in specs/Codes.antt. A slice is a pointer and a length: the caller lends that many readable bytes for the
-// time of the call, and the pointer is not null even where the length is 0.
+// Promised of any bytes: `ruxtajma_judge` answers 0 for accepted, else the refusal's number; `ruxtajma_list` answers the
+// listing's length or a refusal's number, as specs/Codes.antt puts them into one. The definitions stand in mps's
+// specs/Judge.antt and specs/Listing.antt. A slice is a pointer and a length: the caller lends that many readable bytes
+// for the time of the call, writable ones for a room, which no other slice of the call overlaps; the pointer is not null
+// even where the length is 0.
 use mps::Written;
 ghost use mathlib.Core.Path.{_≡_};
 ghost use Rattle.mps.specs.Judge.{tableRefusal};
 ghost use Rattle.mps.specs.Listing.{listed, listLeft};
 ghost use Rattle.exports.specs.Codes.{writtenCode};
+
+// 2^32
+const HIGH_HALF: u64 = 0x100000000;
 
 // uint8_t ruxtajma_judge(const uint8_t *table, size_t length)
 #[no_mangle]
@@ -29,6 +34,6 @@ pub extern "C" fn ruxtajma_list(d: &[u8], room: &mut [u8]) -> u64
     let answer = listing::list(d, room);
     match answer {
         Written::Bytes(n) => n as u64,
-        Written::Refused(n) => n as u64 * 4294967296,
+        Written::Refused(n) => n as u64 * HIGH_HALF,
     }
 }

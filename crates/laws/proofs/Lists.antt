@@ -1,15 +1,15 @@
 -- Laws of the words about lists. Assumes nothing.
 use Prim.Native.Nat.{ℕ, zero, suc, _+_, _≤_, _<_}
-use mathlib.Core.Path.{_≡_, refl, ap}
+use mathlib.Core.Path.{_≡_, refl, ap, sym}
 use mathlib.Core.Bool.{Bool, true, false, _&&_, false≢true, or-true}
-use mathlib.Core.List.{List, [], _∷_}
+use mathlib.Core.List.{List, [], _∷_, _++_, append-assoc}
 use native.Mathlib.Omega.{arith}
 use native.Mathlib.Numerals.{add-one}
 use lib.ListN.{length, getD, drop, drop-of-length-le}
 use lib.Seq.{drop-cons}
 use lib.Dec.{eqb}
 use borrow.Author.Tests.{eqb-true, eq-eqb}
-use Rattle.mps.specs.Words.{among, keep, any, exactly}
+use Rattle.mps.specs.Words.{among, keep, any, joined, exactly}
 use Rattle.laws.proofs.Tests.{whether, either}
 
 -- ---- among
@@ -78,6 +78,18 @@ pub any-keep : {A : Type 0} (p q : A → Bool) (xs : List A) → any p (keep q x
 unfolding keep any
 any-keep p q [] = refl
 any-keep p q (x ∷ xs) = whether (q x) (λ e. rw (e, keep, any-keep p q xs)) (λ e. rw (e, keep, any-keep p q xs))
+
+pub keep-append : {A : Type 0} (p : A → Bool) (xs ys : List A) → keep p (xs ++ ys) ≡ keep p xs ++ keep p ys
+unfolding keep
+keep-append p [] ys = refl
+keep-append p (x ∷ xs) ys = whether (p x) (λ t. rw (t, keep, keep-append p xs ys)) (λ f. rw (f, keep, keep-append p xs ys))
+
+-- ---- joined
+
+pub joined-append : {A B : Type 0} (f : A → List B) (xs ys : List A) → joined f (xs ++ ys) ≡ joined f xs ++ joined f ys
+unfolding joined
+joined-append f [] ys = refl
+joined-append f (x ∷ xs) ys = rw (joined-append f xs ys) (sym (append-assoc (f x) (joined f xs) (joined f ys)))
 
 -- ---- exactly
 

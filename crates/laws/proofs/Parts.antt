@@ -1,11 +1,15 @@
 -- Laws of `part`, the bytes from one place up to another. Assumes nothing.
-use Prim.Native.Nat.{ℕ, zero, suc, _+_, _-_, _≤_}
-use mathlib.Core.Path.{_≡_, sym}
+use Prim.Native.Nat.{ℕ, zero, suc, _+_, _-_, _≤_, min}
+use mathlib.Core.Path.{_≡_, ap, sym, _∙_}
 use mathlib.Core.List.{List, [], _∷_}
+use native.Mathlib.Nat.{zero-min, min-zero, suc-min-suc, zero-sub, sub-zero, suc-sub-suc}
 use native.Mathlib.Omega.{arith}
-use lib.ListN.{length, take, drop, length-drop}
-use lib.Seq.{take-take, take-nil, drop-drop, length-take-le}
+use lib.Dec.{leb}
+use lib.ListN.{length, take, drop, length-drop, drop-of-length-le}
+use lib.Seq.{take-take, take-nil, drop-nil, drop-drop, length-take-le}
+use borrow.Author.Tests.{leb-true, leb-false}
 use Rattle.mps.specs.Words.{part}
+use Rattle.laws.proofs.Tests.{whether}
 
 pub drop-take : (a k : ℕ) (s : List ℕ) → drop a (take k s) ≡ take (k - a) (drop a s)
 drop-take zero k s = let e : k - 0 ≡ k = omega arith in rw e
@@ -31,3 +35,29 @@ drop-part m n a s =
 -- And so is a part of a row.
 pub row-part : (n : ℕ) (s : List ℕ) (at i j : ℕ) → j ≤ n → part i j (take n (drop at s)) ≡ part (at + i) (at + j) s
 row-part n s at i j h = let e : at + n - at ≡ n = omega arith in rw e at (part-part at (at + n) i j s (omega arith))
+
+-- A place that is past the list's end may as well be there.
+take-inside : (n : ℕ) (s : List ℕ) → take (min n (length s)) s ≡ take n s
+take-inside zero s = rw (zero-min (length s))
+take-inside (suc n) [] = rw (min-zero (suc n))
+take-inside (suc n) (x ∷ xs) = rw (suc-min-suc n (length xs)) (ap (λ (l : List ℕ). x ∷ l) (take-inside n xs))
+
+pub part-inside : (m n : ℕ) (s : List ℕ) → part (min m (length s)) (min n (length s)) s ≡ part m n s
+part-inside m n [] = rw (drop-nil (min m 0), drop-nil m, take-nil (min n 0 - min m 0), take-nil (n - m))
+part-inside zero n (x ∷ xs) =
+    let k = length (x ∷ xs) in
+    rw (zero-min k, sub-zero (min n k), sub-zero n) (take-inside n (x ∷ xs))
+part-inside (suc m) zero (x ∷ xs) =
+    let k = length (x ∷ xs) in
+    rw (zero-min k, zero-sub (min (suc m) k), zero-sub (suc m))
+part-inside (suc m) (suc n) (x ∷ xs) =
+    let k = length xs in
+    rw (suc-min-suc m k, suc-min-suc n k, suc-sub-suc (min n k) (min m k), suc-sub-suc n m) (part-inside m n xs)
+
+pub drop-inside : (n : ℕ) (s : List ℕ) → drop (min n (length s)) s ≡ drop n s
+drop-inside n s =
+    whether (leb n (length s))
+    (λ h. let k = leb-true n (length s) h in let e : min n (length s) ≡ n = omega arith in rw e)
+    (λ h.
+    let k = leb-false n (length s) h in
+    drop-of-length-le s {i = min n (length s)} (omega arith) ∙ sym (drop-of-length-le s {i = n} (omega arith)))

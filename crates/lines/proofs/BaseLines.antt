@@ -1,19 +1,19 @@
 -- The lines of base entries, from their words. Assumes nothing.
-use Prim.Native.Nat.{ℕ, zero, suc, _-_, _/_, _%_, _<_, min}
-use mathlib.Core.Path.{_≡_, ap}
+use Prim.Native.Nat.{ℕ, _/_, _%_, _<_, min}
+use mathlib.Core.Path.{_≡_}
 use mathlib.Core.Bool.{false}
 use mathlib.Core.List.{List, [], _∷_}
-use native.Mathlib.Nat.{div-one, zero-min, min-zero, suc-min-suc, zero-sub, sub-zero, suc-sub-suc}
+use native.Mathlib.Nat.{div-one}
 use native.Mathlib.Omega.{arith}
 use borrow.Author.Tests.{ne-eqb}
 use lib.Dec.{eqb}
-use lib.ListN.{length, take}
-use lib.Seq.{take-nil, drop-nil}
+use lib.ListN.{length}
 use Rattle.mps.specs.Words.{text, bit, byte, part}
 use Rattle.mps.specs.Numbers.{le}
 use Rattle.mps.specs.Layout.{Entry, polarity, trigger, destination, input}
 use Rattle.mps.specs.Listing.{decimal, hex, unpadded, onOff, bootAp, interruptName, line}
 use Rattle.mps.specs.Listing.{cpuLine, busLine, ioApicLine, interruptLine, baseLine}
+use Rattle.laws.proofs.Parts.{part-inside}
 use Rattle.text.specs.Text.{ended}
 use Rattle.lines.specs.Wrote.{Wrote}
 use Rattle.lines.proofs.Laws.{Line, then, last, next}
@@ -57,24 +57,6 @@ module _ {t u : List ℕ} {at r : ℕ} (n : ℕ) where
   extint-is h a = rw (gt-eqb n 0 (omega arith), gt-eqb n 1 (omega arith), gt-eqb n 2 h) a
 
 -- ---- Lines
-
--- An end that is past the list's may as well be there.
-take-inside : (n : ℕ) (s : List ℕ) → take (min n (length s)) s ≡ take n s
-take-inside zero s = rw (zero-min (length s))
-take-inside (suc n) [] = rw (min-zero (suc n))
-take-inside (suc n) (x ∷ xs) = rw (suc-min-suc n (length xs)) (ap (λ (l : List ℕ). x ∷ l) (take-inside n xs))
-
-part-inside : (m n : ℕ) (s : List ℕ) → part (min m (length s)) (min n (length s)) s ≡ part m n s
-part-inside m n [] = rw (drop-nil (min m 0), drop-nil m, take-nil (min n 0 - min m 0), take-nil (n - m))
-part-inside zero n (x ∷ xs) =
-    let k = length (x ∷ xs) in
-    rw (zero-min k, sub-zero (min n k), sub-zero n) (take-inside n (x ∷ xs))
-part-inside (suc m) zero (x ∷ xs) =
-    let k = length (x ∷ xs) in
-    rw (zero-min k, zero-sub (min (suc m) k), zero-sub (suc m))
-part-inside (suc m) (suc n) (x ∷ xs) =
-    let k = length xs in
-    rw (suc-min-suc m k, suc-min-suc n k, suc-sub-suc (min n k) (min m k), suc-sub-suc n m) (part-inside m n xs)
 
 -- The last words of an interrupt, behind its polarity.
 abbrev signalled : Entry → List (List ℕ)

@@ -27,42 +27,42 @@ low-flag n = rw div-one (cases (n % 2) (omega arith))
     cases (suc (suc k)) h = absurd (omega (arith, h))
 
 pub map-is :
-    {t u v x y z : List ℕ} {at p q r s l bus kind base size : ℕ} (e : Entry)
-    → bus ≡ getD e 2 0 → kind ≡ getD e 3 0 → base ≡ le 8 e 4 → size ≡ le 8 e 12
-    → Wrote t at (ended (text "map") 32) u p → Wrote u p (ended (decimal bus) 32) v q → Wrote v q (ended (decimal kind) 32) x r
-    → Wrote x r (ended (hex 16 base) 32) y s → Wrote y s (ended (hex 16 size) 10) z l → Wrote t at (mapLine e) z l
+    {t u v x y z : List ℕ} {at p q r s l base size : ℕ} (e : Entry) → base ≡ le 8 e 4 → size ≡ le 8 e 12
+    → Wrote t at (ended (text "map") 32) u p → Wrote u p (ended (decimal (getD e 2 0)) 32) v q
+    → Wrote v q (ended (decimal (getD e 3 0)) 32) x r → Wrote x r (ended (hex 16 base) 32) y s
+    → Wrote y s (ended (hex 16 size) 10) z l → Wrote t at (mapLine e) z l
 unfolding mapLine
-map-is {bus = bus} {kind} {base} {size} e f g h i a b c d j =
-    rw (← f, ← g, ← h, ← i)
-    (next (text "map") a (next (decimal bus) b (next (decimal kind) c (next (hex 16 base) d (last (hex 16 size) j)))) .wrote)
+map-is {base = base} {size} e h i a b c d j =
+    rw (← h, ← i)
+    (next (text "map") a (next (decimal (getD e 2 0)) b (next (decimal (getD e 3 0)) c
+    (next (hex 16 base) d (last (hex 16 size) j)))) .wrote)
 
-module _ {t u v x y : List ℕ} {at p q r s bus link : ℕ} (e : Entry) (f : bus ≡ getD e 2 0) (g : link ≡ getD e 3 0) where
+module _ {t u v x y : List ℕ} {at p q r s link : ℕ} (e : Entry) (g : link ≡ getD e 3 0) where
   pub tree-is :
-      {parent : ℕ} → parent ≡ getD e 4 0
-      → Wrote t at (ended (text "tree") 32) u p → Wrote u p (ended (decimal bus) 32) v q → Wrote v q (ended (decimal parent) 32) x r
-      → Wrote x r (ended (decimal (link % 2)) 10) y s → Wrote t at (treeLine e) y s
+      Wrote t at (ended (text "tree") 32) u p → Wrote u p (ended (decimal (getD e 2 0)) 32) v q
+      → Wrote v q (ended (decimal (getD e 4 0)) 32) x r → Wrote x r (ended (decimal (link % 2)) 10) y s
+      → Wrote t at (treeLine e) y s
   unfolding treeLine
-  tree-is {parent} h a b c d =
-      rw (← f, ← g, ← h, ← low-flag link)
-      (next (text "tree") a (next (decimal bus) b (next (decimal parent) c (last (decimal (link % 2)) d))) .wrote)
+  tree-is a b c d =
+      rw (← g, ← low-flag link)
+      (next (text "tree") a (next (decimal (getD e 2 0)) b (next (decimal (getD e 4 0)) c (last (decimal (link % 2)) d))) .wrote)
 
   pub mod-is :
       {list : ℕ} → list ≡ le 4 e 4
-      → Wrote t at (ended (text "mod") 32) u p → Wrote u p (ended (decimal bus) 32) v q → Wrote v q (ended (decimal (link % 2)) 32) x r
-      → Wrote x r (ended (decimal list) 10) y s → Wrote t at (modLine e) y s
+      → Wrote t at (ended (text "mod") 32) u p → Wrote u p (ended (decimal (getD e 2 0)) 32) v q
+      → Wrote v q (ended (decimal (link % 2)) 32) x r → Wrote x r (ended (decimal list) 10) y s
+      → Wrote t at (modLine e) y s
   unfolding modLine
   mod-is {list} h a b c d =
-      rw (← f, ← g, ← h, ← low-flag link)
-      (next (text "mod") a (next (decimal bus) b (next (decimal (link % 2)) c (last (decimal list) d))) .wrote)
+      rw (← g, ← h, ← low-flag link)
+      (next (text "mod") a (next (decimal (getD e 2 0)) b (next (decimal (link % 2)) c (last (decimal list) d))) .wrote)
 
 pub skip-is :
-    {t u v x : List ℕ} {at p q r kind size : ℕ} (e : Entry)
-    → kind ≡ getD e 0 0 → size ≡ getD e 1 0
-    → Wrote t at (ended (text "skip") 32) u p → Wrote u p (ended (decimal kind) 32) v q → Wrote v q (ended (decimal size) 10) x r
-    → Wrote t at (skipLine e) x r
+    {t u v x : List ℕ} {at p q r : ℕ} (e : Entry)
+    → Wrote t at (ended (text "skip") 32) u p → Wrote u p (ended (decimal (getD e 0 0)) 32) v q
+    → Wrote v q (ended (decimal (getD e 1 0)) 10) x r → Wrote t at (skipLine e) x r
 unfolding skipLine
-skip-is {kind = kind} {size} e f g a b c =
-    rw (← f, ← g) (next (text "skip") a (next (decimal kind) b (last (decimal size) c)) .wrote)
+skip-is e a b c = next (text "skip") a (next (decimal (getD e 0 0)) b (last (decimal (getD e 1 0)) c)) .wrote
 
 -- ---- By its type
 

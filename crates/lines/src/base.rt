@@ -1,14 +1,17 @@
 // The lines of base entries: cpu, bus, ioapic, int and lint.
 use super::decimal;
+use super::field;
 use super::hex8;
 use super::inside;
 use super::name;
 use super::word;
 use mps::layout;
+use text::LINE_END;
+use text::SPACE;
 ghost use mathlib.Core.Path.{_≡_};
 ghost use mathlib.Core.List.{[], _∷_};
 ghost use Prim.Native.Nat.{_+_, _≤_};
-ghost use lib.ListN.{length, getD};
+ghost use lib.ListN.{length};
 ghost use lib.Seq.{sets};
 ghost use Rattle.mps.specs.Words.{bit};
 ghost use Rattle.mps.specs.Layout.{polarity, trigger, destination, input};
@@ -55,8 +58,8 @@ fn cpu(out: &mut [u8], at: usize, e: &[u8]) -> usize
 {
     let flags = numbers::byte(e, layout::APIC_FLAGS);
     let a = word(out, at, b"cpu ");
-    let b = field(out, a, e, layout::ENTRY_ID, 32);
-    let c = field(out, b, e, layout::APIC_VERSION, 32);
+    let b = field(out, a, e, layout::ENTRY_ID, SPACE);
+    let c = field(out, b, e, layout::APIC_VERSION, SPACE);
     let d = on_off(out, c, flags);
     boot_ap(out, d, flags)
 }
@@ -68,8 +71,8 @@ fn bus(out: &mut [u8], at: usize, e: &[u8]) -> usize
     let from = inside(e, layout::BUS_NAME);
     let to = inside(e, layout::ENTRY_SIZE);
     let a = word(out, at, b"bus ");
-    let b = field(out, a, e, layout::ENTRY_ID, 32);
-    name(out, b, &e[from..to], 10)
+    let b = field(out, a, e, layout::ENTRY_ID, SPACE);
+    name(out, b, &e[from..to], LINE_END)
 }
 
 fn io_apic(out: &mut [u8], at: usize, e: &[u8]) -> usize
@@ -79,10 +82,10 @@ fn io_apic(out: &mut [u8], at: usize, e: &[u8]) -> usize
     let flags = numbers::byte(e, layout::APIC_FLAGS);
     let address = numbers::le32(e, layout::IO_APIC_ADDRESS);
     let a = word(out, at, b"ioapic ");
-    let b = field(out, a, e, layout::ENTRY_ID, 32);
-    let c = field(out, b, e, layout::APIC_VERSION, 32);
+    let b = field(out, a, e, layout::ENTRY_ID, SPACE);
+    let c = field(out, b, e, layout::APIC_VERSION, SPACE);
     let d = on_off(out, c, flags);
-    hex8(out, d, address, 10)
+    hex8(out, d, address, LINE_END)
 }
 
 fn interrupt(out: &mut [u8], at: usize, w: &[u8], e: &[u8]) -> usize
@@ -92,8 +95,8 @@ fn interrupt(out: &mut [u8], at: usize, w: &[u8], e: &[u8]) -> usize
     let kind = numbers::byte(e, layout::INTERRUPT_TYPE);
     let a = word(out, at, w);
     let b = interrupt_name(out, a, kind);
-    let c = field(out, b, e, layout::SOURCE_BUS, 32);
-    let d = field(out, c, e, layout::SOURCE_IRQ, 32);
+    let c = field(out, b, e, layout::SOURCE_BUS, SPACE);
+    let d = field(out, c, e, layout::SOURCE_IRQ, SPACE);
     signal(out, d, e)
 }
 
@@ -106,20 +109,10 @@ fn signal(out: &mut [u8], at: usize, e: &[u8]) -> usize
         ⌜ Wrote (now (out .entry)) at (lineOf (decimalOf (polarity x)) words) (now (out .exit)) r ⌝ }
 {
     let flags = numbers::byte(e, layout::INTERRUPT_FLAGS);
-    let a = decimal(out, at, (flags % 4) as u32, 32);
-    let b = decimal(out, a, (flags / 4 % 4) as u32, 32);
-    let c = field(out, b, e, layout::DESTINATION, 32);
-    field(out, c, e, layout::INPUT, 10)
-}
-
-// A byte of an entry, in decimal.
-fn field(out: &mut [u8], at: usize, e: &[u8], k: usize, last: u8) -> usize
-    requires { ⌜ at ≤ most ⌝ }
-    ensures { λ r. ⌜ Wrote (now (out .entry)) at (ended (decimalOf (getD (now (e .entry)) k 0)) last) (now (out .exit)) r ⌝ }
-    ensures { λ r. ⌜ r ≤ at + 16 ⌝ }
-{
-    let x = numbers::byte(e, k);
-    decimal(out, at, x as u32, last)
+    let a = decimal(out, at, (flags % 4) as u32, SPACE);
+    let b = decimal(out, a, (flags / 4 % 4) as u32, SPACE);
+    let c = field(out, b, e, layout::DESTINATION, SPACE);
+    field(out, c, e, layout::INPUT, LINE_END)
 }
 
 fn on_off(out: &mut [u8], at: usize, flags: u8) -> usize

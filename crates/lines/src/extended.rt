@@ -1,9 +1,12 @@
 // The lines of extended entries: map, tree, mod and skip.
 use super::decimal;
+use super::field;
 use super::hex16;
 use super::inside;
 use super::word;
 use mps::layout;
+use text::LINE_END;
+use text::SPACE;
 ghost use mathlib.Core.Path.{_≡_};
 ghost use Prim.Native.Nat.{_+_, _≤_};
 ghost use lib.ListN.{length};
@@ -18,10 +21,10 @@ fn map(out: &mut [u8], at: usize, e: &[u8]) -> usize
     ensures { λ r. ⌜ Wrote (now (out .entry)) at (mapLine (now (e .entry))) (now (out .exit)) r ⌝ }
 {
     let a = word(out, at, b"map ");
-    let b = decimal(out, a, numbers::byte(e, layout::EXTENDED_BUS) as u32, 32);
-    let c = decimal(out, b, numbers::byte(e, layout::SPACE_KIND) as u32, 32);
-    let d = hex16(out, c, numbers::le64(e, layout::SPACE_BASE), 32);
-    hex16(out, d, numbers::le64(e, layout::SPACE_LENGTH), 10)
+    let b = field(out, a, e, layout::EXTENDED_BUS, SPACE);
+    let c = field(out, b, e, layout::SPACE_KIND, SPACE);
+    let d = hex16(out, c, numbers::le64(e, layout::SPACE_BASE), SPACE);
+    hex16(out, d, numbers::le64(e, layout::SPACE_LENGTH), LINE_END)
 }
 
 fn tree(out: &mut [u8], at: usize, e: &[u8]) -> usize
@@ -29,9 +32,14 @@ fn tree(out: &mut [u8], at: usize, e: &[u8]) -> usize
     ensures { λ r. ⌜ Wrote (now (out .entry)) at (treeLine (now (e .entry))) (now (out .exit)) r ⌝ }
 {
     let a = word(out, at, b"tree ");
-    let b = decimal(out, a, numbers::byte(e, layout::EXTENDED_BUS) as u32, 32);
-    let c = decimal(out, b, numbers::byte(e, layout::PARENT_BUS) as u32, 32);
-    decimal(out, c, (numbers::byte(e, layout::LINK_BIT) % 2) as u32, 10)
+    let b = field(out, a, e, layout::EXTENDED_BUS, SPACE);
+    let c = field(out, b, e, layout::PARENT_BUS, SPACE);
+    decimal(
+        out,
+        c,
+        (numbers::byte(e, layout::LINK_BIT) % 2) as u32,
+        LINE_END,
+    )
 }
 
 fn modifier(out: &mut [u8], at: usize, e: &[u8]) -> usize
@@ -39,9 +47,14 @@ fn modifier(out: &mut [u8], at: usize, e: &[u8]) -> usize
     ensures { λ r. ⌜ Wrote (now (out .entry)) at (modLine (now (e .entry))) (now (out .exit)) r ⌝ }
 {
     let a = word(out, at, b"mod ");
-    let b = decimal(out, a, numbers::byte(e, layout::EXTENDED_BUS) as u32, 32);
-    let c = decimal(out, b, (numbers::byte(e, layout::LINK_BIT) % 2) as u32, 32);
-    decimal(out, c, numbers::le32(e, layout::RANGE_LIST), 10)
+    let b = field(out, a, e, layout::EXTENDED_BUS, SPACE);
+    let c = decimal(
+        out,
+        b,
+        (numbers::byte(e, layout::LINK_BIT) % 2) as u32,
+        SPACE,
+    );
+    decimal(out, c, numbers::le32(e, layout::RANGE_LIST), LINE_END)
 }
 
 fn skip(out: &mut [u8], at: usize, e: &[u8]) -> usize
@@ -49,8 +62,8 @@ fn skip(out: &mut [u8], at: usize, e: &[u8]) -> usize
     ensures { λ r. ⌜ Wrote (now (out .entry)) at (skipLine (now (e .entry))) (now (out .exit)) r ⌝ }
 {
     let a = word(out, at, b"skip ");
-    let b = decimal(out, a, numbers::byte(e, 0) as u32, 32);
-    decimal(out, b, numbers::byte(e, layout::ENTRY_LENGTH) as u32, 10)
+    let b = field(out, a, e, 0, SPACE);
+    field(out, b, e, layout::ENTRY_LENGTH, LINE_END)
 }
 
 // The line of an extended entry, by its type.

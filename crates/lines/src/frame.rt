@@ -3,6 +3,8 @@ use super::decimal;
 use super::hex8;
 use super::inside;
 use super::word;
+use text::LINE_END;
+use text::SPACE;
 ghost use mathlib.Core.Path.{_≡_};
 ghost use lib.ListN.{length};
 ghost use lib.Seq.{sets};
@@ -14,9 +16,9 @@ pub fn pointer(out: &mut [u8], at: usize, address: u32, imcr: u8) -> usize
 {
     let start = inside(out, at);
     let a = word(out, start, b"pointer ");
-    let b = hex8(out, a, address, 32);
+    let b = hex8(out, a, address, SPACE);
     let c = word(out, b, b"imcr ");
-    let d = decimal(out, c, imcr as u32, 10);
+    let d = decimal(out, c, imcr as u32, LINE_END);
     d - start
 }
 
@@ -26,10 +28,10 @@ pub fn table(out: &mut [u8], at: usize, address: u32, base: u16, extended: u16, 
 {
     let start = inside(out, at);
     let a = word(out, start, b"table ");
-    let b = hex8(out, a, address, 32);
-    let c = decimal(out, b, base as u32, 32);
-    let d = decimal(out, c, extended as u32, 32);
-    let e = decimal(out, d, count as u32, 10);
+    let b = hex8(out, a, address, SPACE);
+    let c = decimal(out, b, base as u32, SPACE);
+    let d = decimal(out, c, extended as u32, SPACE);
+    let e = decimal(out, d, count as u32, LINE_END);
     e - start
 }
 
@@ -46,9 +48,9 @@ pub fn default(out: &mut [u8], at: usize, number: u8, imcr: u8) -> usize
 {
     let start = inside(out, at);
     let a = word(out, start, b"default ");
-    let b = decimal(out, a, number as u32, 32);
+    let b = decimal(out, a, number as u32, SPACE);
     let c = word(out, b, b"imcr ");
-    let d = decimal(out, c, imcr as u32, 10);
+    let d = decimal(out, c, imcr as u32, LINE_END);
     d - start
 }
 
@@ -58,6 +60,6 @@ pub fn refused(out: &mut [u8], at: usize, number: u8) -> usize
 {
     let start = inside(out, at);
     let a = word(out, start, b"refused ");
-    let b = decimal(out, a, number as u32, 10);
+    let b = decimal(out, a, number as u32, LINE_END);
     b - start
 }

@@ -9,7 +9,7 @@ pub mod frame; // the lines that stand around them, or alone
 
 ghost use mathlib.Core.Path.{_≡_};
 ghost use Prim.Native.Nat.{_+_, _≤_, min};
-ghost use lib.ListN.{length};
+ghost use lib.ListN.{length, getD};
 ghost use Rattle.mps.specs.Listing.{decimal as decimalOf, hex, unpadded};
 ghost use Rattle.text.specs.Text.{ended};
 ghost use Rattle.lines.specs.Wrote.{Wrote, most};
@@ -38,6 +38,16 @@ fn decimal(out: &mut [u8], at: usize, x: u32, last: u8) -> usize
     ensures { λ r. ⌜ r ≤ at + 16 ⌝ }
 {
     at + text::decimal(out, at, x, last)
+}
+
+// A byte of an entry, in decimal.
+fn field(out: &mut [u8], at: usize, e: &[u8], k: usize, last: u8) -> usize
+    requires { ⌜ at ≤ most ⌝ }
+    ensures { λ r. ⌜ Wrote (now (out .entry)) at (ended (decimalOf (getD (now (e .entry)) k 0)) last) (now (out .exit)) r ⌝ }
+    ensures { λ r. ⌜ r ≤ at + 16 ⌝ }
+{
+    let x = numbers::byte(e, k);
+    decimal(out, at, x as u32, last)
 }
 
 fn hex8(out: &mut [u8], at: usize, x: u32, last: u8) -> usize

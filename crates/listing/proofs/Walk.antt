@@ -5,31 +5,23 @@ use mathlib.Core.Bool.{Bool, true, false, cond}
 use mathlib.Core.List.{List, _∷_, _++_}
 use native.Mathlib.Omega.{arith}
 use native.Mathlib.Nat.{add-zero}
-use lib.ListN.{length, getD, take, drop, length-append, length-drop, drop-of-length-le}
-use lib.Seq.{sets, length-sets, getD-drop, drop-cons, take-all}
-use lib.Dec.{leb, eqb}
-use borrow.Author.Tests.{leb-true, leb-false, eq-eqb, ne-eqb}
+use lib.ListN.{length, getD, take, drop, length-append}
+use lib.Seq.{sets, length-sets, getD-drop, drop-cons}
+use lib.Dec.{eqb}
+use borrow.Author.Tests.{eq-eqb, ne-eqb}
 use Rattle.mps.specs.Words.{cut, joined, part}
 use Rattle.mps.specs.Layout.{processorType, processorSize, entrySize, baseEntryLength, extendedEntryLength}
-use Rattle.laws.proofs.Tests.{whether}
 use Rattle.laws.proofs.Stores.{sets-append}
+use Rattle.laws.proofs.Parts.{part-inside, drop-inside}
 use Rattle.laws.proofs.Cut.{cut-next, cut-done}
 use Rattle.lines.specs.Wrote.{Wrote}
 
--- The bytes behind an end that is cut at the list's own, and a piece that ends there.
-drop-min : (s : List ℕ) (n : ℕ) → drop (min n (length s)) s ≡ drop n s
-drop-min s n =
-    whether (leb n (length s))
-    (λ h. let k = leb-true n (length s) h in let e : min n (length s) ≡ n = omega arith in rw e)
-    (λ h. let k = leb-false n (length s) h in
-    drop-of-length-le s {i = min n (length s)} (omega arith) ∙ sym (drop-of-length-le s {i = n} (omega arith)))
-
+-- A piece that ends at the list's end, where it would end past it.
 take-min : (s : List ℕ) (i n : ℕ) → i < length s → part i (min (i + n) (length s)) s ≡ take n (drop i s)
 take-min s i n h =
-    whether (leb (i + n) (length s))
-    (λ q. let k = leb-true (i + n) (length s) q in let e : min (i + n) (length s) - i ≡ n = omega arith in rw e)
-    (λ q. let k = leb-false (i + n) (length s) q in
-    take-all (min (i + n) (length s) - i) (drop i s) (omega (arith, length-drop i s)) ∙ sym (take-all n (drop i s) (omega (arith, length-drop i s))))
+    let e : min i (length s) ≡ i = omega arith in
+    let f : i + n - i ≡ n = omega arith in
+    rw (e, f) at (part-inside i (i + n) s)
 
 module _ (len : List ℕ → ℕ) (f : List ℕ → List ℕ) where
   -- The entry at a place and those behind it. One of no length passes one byte.
@@ -42,7 +34,7 @@ module _ (len : List ℕ → ℕ) (f : List ℕ → List ℕ) where
       rw (k, drop-cons s i 0 h, ← z)
   cut-step s i (suc n) next h e m =
       let k : next ≡ min (i + suc n) (length s) = omega arith in
-      rw (k, drop-min s (i + suc n)) (cut-next len s i (suc n) h e (omega arith))
+      rw (k, drop-inside (i + suc n) s) (cut-next len s i (suc n) h e (omega arith))
 
   joined-next : (s : List ℕ) (i end next : ℕ) → i < length s → end ≡ min (i + len (drop i s)) (length s) → next ≡ max (i + 1) end
       → joined f (cut len 0 (drop i s)) ≡ f (part i end s) ++ joined f (cut len 0 (drop next s))

@@ -22,6 +22,9 @@ ghost use Rattle.mps.specs.Listing.{listed, listLeft, printed, printLeft, baseL
 ghost use Rattle.lines.specs.Wrote.{Wrote};
 ghost use Rattle.listing.specs.Fits.{fitted, fitLeft, tableText};
 
+// "answer longer than the lent room"
+const TOO_LONG: u8 = 19;
+
 // The length of a base entry, by its type.
 fn base_size(kind: u8) -> usize
     ensures { λ r. ⌜ r ≡ cond (eqb kind processorType) processorSize entrySize ⌝ }
@@ -43,7 +46,8 @@ fn ending(s: &[u8], at: usize, size: usize) -> usize
     at + size
 }
 
-// The lines of base entries from a place on; answers the place behind them.
+// The lines of base entries from a place on; answers the place behind them. The bounds on places and lengths only keep
+// sums from overflowing; any larger ones would do.
 fn put_base(out: &mut [u8], at: usize, s: &[u8]) -> usize
     requires { ⌜ (at ≤ 1000) × (length (now s) ≤ 65535) ⌝ }
     ensures { λ r. ⌜ Wrote (now (out .entry)) at (joined baseLine (cut baseEntryLength 0 (now (s .entry)))) (now (out .exit)) r ⌝ }
@@ -102,8 +106,9 @@ fn put_table(out: &mut [u8], t: &[u8], pointer: u32, imcr: u8, address: u32) -> 
     d + lines::frame::end(out, d)
 }
 
-// No listing of a table whose parts have these lengths is longer: a base entry has at least eight bytes and a line of at
-// most 48, and no extended entry has more than nine times as many bytes in its line.
+// Six bytes a byte of the base and nine a byte of the extended part are enough: a base entry has at least eight bytes and a
+// line of at most 48, an extended entry's line has at most nine times its bytes, and the header's 44 bytes pay for the
+// lines around them.
 fn bound(t: &[u8]) -> usize
     requires { ⌜ tableRefusal (now t) ≡ 0 ⌝ }
     ensures { λ r. ⌜ ((pointer imcr address : ℕ) → length (tableText pointer imcr address (now (t .entry))) ≤ r) ⌝ }
@@ -132,7 +137,7 @@ fn list_measured(t: &[u8], pointer: u32, imcr: u8, address: u32, out: &mut [u8])
 {
     let size = put_table(&mut out[..0], t, pointer, imcr, address);
     if out.len() < size {
-        return Written::Refused(19);
+        return Written::Refused(TOO_LONG);
     }
     put_table(out, t, pointer, imcr, address);
     Written::Bytes(size)
@@ -144,7 +149,7 @@ fn list_default(number: u8, imcr: u8, out: &mut [u8]) -> Written
 {
     let size = lines::frame::default(&mut out[..0], 0, number, imcr);
     if out.len() < size {
-        return Written::Refused(19);
+        return Written::Refused(TOO_LONG);
     }
     lines::frame::default(out, 0, number, imcr);
     Written::Bytes(size)
@@ -156,7 +161,7 @@ fn print_refused(number: u8, out: &mut [u8]) -> Written
 {
     let width = lines::frame::refused(&mut out[..0], 0, number);
     if out.len() < width {
-        return Written::Refused(19);
+        return Written::Refused(TOO_LONG);
     }
     lines::frame::refused(out, 0, number);
     Written::Bytes(width)
@@ -190,8 +195,8 @@ pub fn print(d: &[u8], out: &mut [u8]) -> Written
     match answer {
         Written::Bytes(n) => Written::Bytes(n),
         Written::Refused(n) => {
-            if n == 19 {
-                return Written::Refused(19);
+            if n == TOO_LONG {
+                return Written::Refused(TOO_LONG);
             }
             print_refused(n, out)
         }

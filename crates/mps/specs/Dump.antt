@@ -13,7 +13,7 @@ use Rattle.mps.specs.Layout.{dumpMost, regionsMost, regionStep, kilobyte
 abbrev pub endOf : Region → ℕ
 endOf r = r .base + r .size
 
--- The rows of the contents, n of them; the body of the first is at `offset`.
+-- The rows of the contents, n of them, from the bytes s on; the body of the first is at `offset`.
 unfoldable pub regionsFrom : ℕ → ℕ → List ℕ → List Region
 regionsFrom zero offset s = []
 regionsFrom (suc n) offset s =

@@ -17,6 +17,16 @@ pub const ROW_BASE: usize = 1;
 
 pub const ROW_SIZE: usize = 5;
 
+// The kinds: the first kilobyte of the EBDA, the last of base memory, the BIOS ROM, and other memory.
+
+pub const EBDA: u8 = 1;
+
+pub const BASE_MEMORY: u8 = 2;
+
+pub const BIOS_ROM: u8 = 3;
+
+pub const OTHER_MEMORY: u8 = 4;
+
 pub const KILOBYTE: u32 = 1024;
 
 pub const ROM_START: u32 = 0xf0000;
@@ -52,8 +62,6 @@ pub const HEADER_SIZE: usize = 44;
 pub const BASE_LENGTH: usize = 4;
 
 pub const REVISION: usize = 6;
-
-pub const CHECKSUM: usize = 7;
 
 pub const ENTRY_COUNT: usize = 34;
 

@@ -24,7 +24,7 @@ pub enum Searched {
 const SIGNATURE: u32 = 0x5f504d5f;
 
 // Bytes of four paragraphs.
-const FOUR: usize = 64;
+const FOUR_PARAGRAPHS: usize = 4 * layout::POINTER_SIZE;
 
 pub fn search(s: &[u8]) -> Searched
     ensures { λ r. ⌜ r ≡ searchOf (now (s .entry)) ⌝ }
@@ -45,11 +45,11 @@ fn passed(s: &[u8]) -> usize
     ensures { λ r. ⌜ (firstGood r (cut sixteen 0 (drop r (now (s .entry)))) ≡ searchOf (now (s .entry))) × (r ≤ length (now (s .entry))) ⌝ }
 {
     let mut at = 0;
-    while FOUR <= s.len() - at {
+    while FOUR_PARAGRAPHS <= s.len() - at {
         if any_signature(s, at) {
             return at;
         }
-        at += FOUR;
+        at += FOUR_PARAGRAPHS;
     }
     at
 }
@@ -60,7 +60,7 @@ fn any_signature(s: &[u8], at: usize) -> bool
     requires { ⌜ at + 64 ≤ length (now s) ⌝ }
     ensures { λ r. ⌜ (r ≡ false → firstGood at (cut sixteen 0 (drop at (now (s .entry)))) ≡ firstGood (at + 64) (cut sixteen 0 (drop (at + 64) (now (s .entry))))) ⌝ }
 {
-    let p = &s[at..at + FOUR];
+    let p = &s[at..at + FOUR_PARAGRAPHS];
     (numbers::le32(p, 0) == SIGNATURE)
         | (numbers::le32(p, 16) == SIGNATURE)
         | (numbers::le32(p, 32) == SIGNATURE)

@@ -18,15 +18,6 @@ ghost use Rattle.mps.specs.Dump.{endOf, regions, soundRegion, holds as holdsAdd
 ghost use Rattle.regions.specs.Regions.{blank, eight, contents, firstOfKind};
 ghost use Rattle.regions.specs.Steps.{lastEnd, unsoundRegion, clashing, clashAny};
 
-// The kinds: the first kilobyte of the EBDA, the last of base memory, the BIOS ROM, and other memory.
-pub const EBDA: u8 = 1;
-
-pub const BASE_MEMORY: u8 = 2;
-
-pub const BIOS_ROM: u8 = 3;
-
-pub const OTHER_MEMORY: u8 = 4;
-
 const BLANK: Region = Region {
     kind: 0,
     base: 0,
@@ -90,9 +81,11 @@ fn sound(r: Region) -> bool
     ensures { λ s. ⌜ s ≡ soundRegion r ⌝ }
 {
     let end = end_of(r);
-    let short = ((r.kind == EBDA) | (r.kind == BASE_MEMORY)) & (r.size <= layout::KILOBYTE);
-    let rom = (r.kind == BIOS_ROM) & ((layout::ROM_START <= r.base) & (end <= layout::ROM_END));
-    (short | rom | (r.kind == OTHER_MEMORY))
+    let short = ((r.kind == layout::EBDA) | (r.kind == layout::BASE_MEMORY))
+        & (r.size <= layout::KILOBYTE);
+    let rom = (r.kind == layout::BIOS_ROM)
+        & ((layout::ROM_START <= r.base) & (end <= layout::ROM_END));
+    (short | rom | (r.kind == layout::OTHER_MEMORY))
         & (r.base % layout::REGION_STEP == 0)
         & (end <= layout::MEMORY_END)
 }
@@ -121,7 +114,7 @@ fn clash(r: Region, q: Region) -> bool
         & (0 < q.size)
         & (wide(r.base) < end_of(q))
         & (wide(q.base) < end_of(r));
-    share | ((EBDA <= r.kind) & (r.kind <= BIOS_ROM) & (q.kind == r.kind))
+    share | ((layout::EBDA <= r.kind) & (r.kind <= layout::BIOS_ROM) & (q.kind == r.kind))
 }
 
 // Whether a region behind the one at `i` clashes with it.
@@ -190,7 +183,7 @@ pub fn read(d: &[u8]) -> Contents
     Contents { wrong: false, all }
 }
 
-// The first region of a kind.
+// A blank one where none is listed; a caller sees that by its kind.
 pub fn of_kind(rs: [Region; 8], kind: u8) -> Region
     ensures { λ r. ⌜ r ≡ firstOfKind kind (take 8 rs) ⌝ }
 {
@@ -211,7 +204,8 @@ fn holds(r: Region, address: u32) -> bool
     (r.base <= address) & (wide(address) < end_of(r))
 }
 
-// "The list of regions is searched for the one that holds an address".
+// "The list of regions is searched for the one that holds an address". Where none does, one of no byte at that address, so
+// that a table there has no bytes.
 pub fn holding(rs: [Region; 8], address: u32) -> Region
     ensures { λ r. ⌜ r ≡ holdingOf address (take 8 rs) ⌝ }
 {

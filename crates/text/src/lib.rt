@@ -17,8 +17,14 @@ ghost use Rattle.mps.specs.Words.{flag};
 ghost use Rattle.mps.specs.Listing.{digits, decimalDigit, hexDigit, decimalWidth, decimal as decimalOf, hex, unpadded};
 ghost use Rattle.text.specs.Text.{ended};
 
-// A space.
-const PADDING: u8 = 32;
+// The bytes behind a word: between two words, and at the end of a line.
+
+pub const SPACE: u8 = 32;
+
+pub const LINE_END: u8 = 10;
+
+// The digit 0.
+const ZERO: u8 = 48;
 
 // The bytes of `w` as they are.
 pub fn word(out: &mut [u8], at: usize, w: &[u8]) -> usize
@@ -79,7 +85,7 @@ fn put_decimal(out: &mut [u8], at: usize, x: u64, k: usize)
     let mut v = x;
     while 0 < m {
         m -= 1;
-        out[at + m] = 48 + (v % 10) as u8;
+        out[at + m] = ZERO + (v % 10) as u8;
         v = v / 10;
     }
 }
@@ -101,19 +107,19 @@ fn short_decimal(out: &mut [u8], at: usize, x: u32, last: u8) -> usize
     ensures { λ _. ⌜ now (out .exit) ≡ sets (now (out .entry)) at (ended (decimalOf x) last) ⌝ }
 {
     if x < 10 {
-        out[at] = 48 + x as u8;
+        out[at] = ZERO + x as u8;
         out[at + 1] = last;
         return 2;
     }
     if x < 100 {
-        out[at] = 48 + (x / 10) as u8;
-        out[at + 1] = 48 + (x % 10) as u8;
+        out[at] = ZERO + (x / 10) as u8;
+        out[at + 1] = ZERO + (x % 10) as u8;
         out[at + 2] = last;
         return 3;
     }
-    out[at] = 48 + (x / 100) as u8;
-    out[at + 1] = 48 + (x / 10 % 10) as u8;
-    out[at + 2] = 48 + (x % 10) as u8;
+    out[at] = ZERO + (x / 100) as u8;
+    out[at + 1] = ZERO + (x / 10 % 10) as u8;
+    out[at + 2] = ZERO + (x % 10) as u8;
     out[at + 3] = last;
     4
 }
@@ -153,7 +159,7 @@ fn hex_digit(d: u8) -> u8
     requires { ⌜ d < 16 ⌝ }
     ensures { λ r. ⌜ r ≡ hexDigit d ⌝ }
 {
-    48 + d + (d + 6) / 16 * 7
+    ZERO + d + (d + 6) / 16 * 7
 }
 
 fn put_hex(out: &mut [u8], at: usize, x: u64, k: usize)
@@ -211,7 +217,7 @@ fn kept(s: &[u8]) -> usize
     let mut n = 0;
     let mut i = 0;
     while i < s.len() {
-        if s[i] != PADDING {
+        if s[i] != SPACE {
             n += 1;
         }
         i += 1;
@@ -231,7 +237,7 @@ fn put_name(out: &mut [u8], at: usize, s: &[u8], last: u8)
             return;
         }
         out[place] = s[i];
-        if s[i] != PADDING {
+        if s[i] != SPACE {
             place += 1;
         }
         i += 1;

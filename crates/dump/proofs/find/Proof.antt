@@ -1,4 +1,4 @@
--- `find` meets its contract: 1 and 2 here, 3 and 4 by what `said` ensures.
+-- 1 and 2 here, 3 and 4 by what `said` ensures.
 use Rattle.dump.proofs.Spots.{spotted-at, spotted-none}
 use Rattle.dump.proofs.Told.{read-wrong, read-sound, read-all, says-1, says-2}
 use borrow.Author.Needs.{needs}

@@ -1,4 +1,4 @@
--- `read` meets its contract: the number of the table is the dump's, where the pointer names one.
+-- The number of the table is the dump's, where the pointer names one.
 use mathlib.Core.Path.{sym, _∙_}
 use native.Mathlib.Omega.{arith}
 use Rattle.dump.proofs.Laws.{pointed-refused, pointed-default, pointed-table, held-refused, held-accepted}

@@ -1,4 +1,4 @@
--- `said` meets its contract: a law of Told.antt for each way out.
+-- A law of Told.antt for each way out.
 use native.Mathlib.Omega.{arith}
 use Rattle.dump.proofs.Told.{says-3, over-7, default-with-table, tells-default, no-table, holding-fits, tells-table}
 use borrow.Author.Needs.{needs}

@@ -1,4 +1,4 @@
--- `searched_first` meets its contract: it is the definition.
+-- It is the definition.
 use Rattle.dump.proofs.Spots.{first-ebda, first-base}
 use borrow.Author.Needs.{needs}
 use Rattle.dump.proofs.searched_first.Statement.{statement}

@@ -1,4 +1,4 @@
--- `spot` meets its contract: where the first region has no good candidate, those of the ROM are all.
+-- Where the first region has no good candidate, those of the ROM are all.
 use Rattle.dump.proofs.Spots.{first-region-fits, spots-first, rom-region-fits, spots-rom}
 use borrow.Author.Needs.{needs}
 use Rattle.dump.proofs.spot.Statement.{statement}

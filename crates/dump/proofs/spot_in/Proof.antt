@@ -1,4 +1,4 @@
--- `spot_in` meets its contract: the place found in the body is the first good candidate of the region.
+-- The place found in the body is the first good candidate of the region.
 use native.Mathlib.Omega.{arith}
 use Rattle.dump.proofs.Spots.{found-inside, spots-at, spots-nothing}
 use borrow.Author.Needs.{needs}

@@ -1,18 +1,46 @@
--- Five texts one behind the other (`table-is`). The parts lie inside the table since it is accepted, and no sum overflows
--- since no line is long.
+-- The parts lie inside an accepted table, each of the five texts begins where the one before it ends: `table-is`.
 use borrow.Author.Needs.{needs}
 use native.Mathlib.Omega.{arith}
-use Prim.Native.Nat.{_+_}
+use Prim.Native.Nat.{_+_, _-_, _≤_}
+use mathlib.Core.Path.{_≡_}
+use lib.ListN.{length}
+use Rattle.mps.specs.Words.{part}
 use Rattle.laws.proofs.Parts.{length-part}
-use Rattle.judge.proofs.Laws.{Inside, accepted-inside}
+use Rattle.judge.proofs.Laws.{accepted-inside}
 use Rattle.listing.proofs.Most.{pointer-most, table-most, end-most}
 use Rattle.listing.proofs.Laws.{table-is}
 use Rattle.listing.proofs.put_table.Statement.{statement}
 use Rattle.listing.proofs.put_table.Tie as tie
 
--- The parts of the table lie inside it.
-within : (c : tie.After-le163) → Inside (c .before .before .before .before .before .args .t .now)
-within c = accepted-inside (c .before .before .before .before .before .args .t .now) (c .before .before .before .before .before .pre)
+-- The parts of the table lie inside it, and so have the lengths that they should.
+within :
+    (c : tie.After-le163)
+    → let base = c .before .before .le16 .result in
+    let t = c .before .before .before .before .before .args .t .now in
+    (44 ≤ base) × (base ≤ length t) × (base + c .before .le162 .result ≤ length t)
+within c =
+    let i = accepted-inside (c .before .before .before .before .before .args .t .now) (c .before .before .before .before .before .pre) in
+    rw (c .before .before .le16 .ensures, c .before .le162 .ensures) (i .low, i .base, i .extended)
+
+sizes :
+    (c : tie.After-le163)
+    → let base = c .before .before .le16 .result in
+    let extended = c .before .le162 .result in
+    let t = c .before .before .before .before .before .args .t .now in
+    (length (part 44 base t) ≡ base - 44) × (length (part base (base + extended) t) ≡ base + extended - base)
+sizes c =
+    let base = c .before .before .le16 .result in
+    let t = c .before .before .before .before .before .args .t .now in
+    (length-part 44 base t (within c .1), length-part base (base + c .before .le162 .result) t (within c .2))
+
+-- The two lines in front of the entries are short.
+front : (c : tie.After-table) → (c .table .result ≤ 48) × (c .before .before .before .before .pointer .result ≤ 48)
+front c =
+    let k = c .before .before .before .before .before .before in
+    let a = k .before .before .before .before .before .args in (
+      omega (arith, table-most (a .address) (k .before .before .le16 .result) (k .before .le162 .result) (k .le163 .result), c .table .ensures .0),
+      omega (arith, pointer-most (a .pointer) (a .imcr), c .before .before .before .before .pointer .ensures .0),
+    )
 
 le16-requires : tie.Need-le16-requires
 le16-requires c κs = search needs
@@ -39,54 +67,19 @@ table-requires : tie.Need-table-requires
 table-requires c κs = search needs
 
 add-b : tie.Need-add-b
-add-b c =
-    let a = c .before .before .before .before .before .before .before .before .before .before .before .before .before .args in
-    let p = c .before .before .before .before .before .before in
-    let count = p .before .before in
-    omega (
-      arith,
-      pointer-most (a .pointer) (a .imcr),
-      table-most (a .address) (count .before .before .le16 .result) (count .before .le162 .result) (count .le163 .result),
-      p .pointer .ensures .0,
-      c .before .before .table .ensures .0,
-    )
+add-b c = omega (arith, front (c .before .before))
 
 sub-put-base : tie.Need-sub-put-base
-sub-put-base c =
-    let n = c .before .before .before .before .before .before .before .before .before in
-    let h = within n .low in
-    omega (arith, n .before .before .le16 .ensures)
+sub-put-base c = within (c .before .before .before .before .before .before .before .before .before) .0
 
 part-put-base-start : tie.Need-part-put-base-start
-part-put-base-start c =
-    let n = c .before .before .before .before .before .before .before .before .before in
-    let h = within n .low in
-    omega (arith, n .before .before .le16 .ensures)
+part-put-base-start c = within (c .before .before .before .before .before .before .before .before .before) .0
 
 part-put-base-end : tie.Need-part-put-base-end
-part-put-base-end c =
-    let n = c .before .before .before .before .before .before .before .before .before in
-    let h = within n .base in
-    omega (arith, n .before .before .le16 .ensures)
+part-put-base-end c = within (c .before .before .before .before .before .before .before .before .before) .1
 
 put-base-requires : tie.Need-put-base-requires
-put-base-requires c κs =
-    let t = c .before .before .before .before in
-    let p = t .before .before .before .before in
-    let n = p .before .before in
-    let a = n .before .before .before .before .before .args in
-    let base = n .before .before .le16 in
-    let extended = n .before .le162 in
-    let i = within n in (
-      omega (
-        arith,
-        pointer-most (a .pointer) (a .imcr),
-        table-most (a .address) (base .result) (extended .result) (n .le163 .result),
-        p .pointer .ensures .0,
-        t .table .ensures .0,
-      ),
-      omega (arith, base .ensures, length-part 44 (base .result) (a .t .now) (rw (base .ensures) (i .base))),
-    )
+put-base-requires c κs = (omega (arith, front (c .before .before .before .before)), omega (arith, sizes (c .before .before .before .before .before .before .before .before .before .before) .0))
 
 sub-put-extended : tie.Need-sub-put-extended
 sub-put-extended c = search needs
@@ -95,60 +88,26 @@ part-put-extended-start : tie.Need-part-put-extended-start
 part-put-extended-start c = search needs
 
 part-put-extended-end : tie.Need-part-put-extended-end
-part-put-extended-end c =
-    let count = c .before .before .before .before .before .before .before .before .before .before .before .before .before .before in
-    let x = within count .extended in
-    omega (arith, count .before .before .le16 .ensures, count .before .le162 .ensures)
+part-put-extended-end c = within (c .before .before .before .before .before .before .before .before .before .before .before .before .before .before) .2
 
 put-extended-requires : tie.Need-put-extended-requires
 put-extended-requires c κs =
-    let l = c .before .before .before .before in
-    let t = l .before .before .before .before .before in
-    let p = t .before .before .before .before in
-    let n = p .before .before in
-    let a = n .before .before .before .before .before .args in
-    let base = n .before .before .le16 in
-    let extended = n .before .le162 in
-    let i = within n in (
-      omega (
-        arith,
-        pointer-most (a .pointer) (a .imcr),
-        table-most (a .address) (base .result) (extended .result) (n .le163 .result),
-        p .pointer .ensures .0,
-        t .table .ensures .0,
-        l .put-base .ensures .1,
-        length-part 44 (base .result) (a .t .now) (rw (base .ensures) (i .base)),
-      ),
-      omega (arith, length-part (base .result) (base .result + extended .result) (a .t .now) (rw (base .ensures, extended .ensures) (i .extended))),
-    )
+    let s = sizes (c .before .before .before .before .before .before .before .before .before .before .before .before .before .before .before) in
+    (omega (arith, front (c .before .before .before .before .before .before .before .before .before), c .before .before .before .before .put-base .ensures .1, s .0), omega (arith, s .1))
 
 end-requires : tie.Need-end-requires
 end-requires c κs = search needs
 
 add-result : tie.Need-add-result
 add-result c =
-    let e = c .before .before in
-    let x = e .before .before .before .before in
-    let l = x .before .before .before .before .before in
-    let t = l .before .before .before .before .before in
-    let p = t .before .before .before .before in
-    let n = p .before .before in
-    let a = n .before .before .before .before .before .args in
-    let base = n .before .before .le16 in
-    let extended = n .before .le162 in
-    let i = within n in
     omega (
       arith,
-      pointer-most (a .pointer) (a .imcr),
-      table-most (a .address) (base .result) (extended .result) (n .le163 .result),
-      p .pointer .ensures .0,
-      t .table .ensures .0,
-      l .put-base .ensures .1,
-      x .put-extended .ensures .1,
-      e .end .ensures .0,
+      front (c .before .before .before .before .before .before .before .before .before .before .before .before .before .before .before .before),
+      c .before .before .before .before .before .before .before .before .before .before .before .put-base .ensures .1,
+      c .before .before .before .before .before .before .put-extended .ensures .1,
+      c .before .before .end .ensures .0,
       end-most,
-      length-part 44 (base .result) (a .t .now) (rw (base .ensures) (i .base)),
-      length-part (base .result) (base .result + extended .result) (a .t .now) (rw (base .ensures, extended .ensures) (i .extended)),
+      sizes (c .before .before .before .before .before .before .before .before .before .before .before .before .before .before .before .before .before .before .before .before .before .before),
     )
 
 same-length : tie.Need-same-length
@@ -158,15 +117,15 @@ returns : tie.Need-returns
 returns c =
     let e = c .before .before in
     let x = e .before .before .before .before in
-    let l = x .before .before .before .before .before in
-    let t = l .before .before .before .before .before in
+    let b = x .before .before .before .before .before in
+    let t = b .before .before .before .before .before in
     let p = t .before .before .before .before in
-    let n = p .before .before in
-    let a = n .before .before .before .before .before .args in
-    table-is (a .pointer) (a .imcr) (a .address) (a .t .now) (n .before .before .le16 .ensures) (n .before .le162 .ensures) (n .le163 .ensures)
+    let k = p .before .before in
+    let a = k .before .before .before .before .before .args in
+    table-is (a .pointer) (a .imcr) (a .address) (a .t .now) (k .before .before .le16 .ensures) (k .before .le162 .ensures) (k .le163 .ensures)
     (record { place = omega (arith, p .pointer .ensures .0); text = p .pointer .ensures .1 })
     (record { place = omega (arith, t .table .ensures .0); text = t .table .ensures .1 })
-    (l .put-base .ensures .0) (x .put-extended .ensures .0)
+    (b .put-base .ensures .0) (x .put-extended .ensures .0)
     (record { place = omega (arith, e .end .ensures .0); text = e .end .ensures .1 })
 
 pub put-table-spec : {M : Type 1} → statement M

@@ -1,4 +1,4 @@
--- `clash` meets its contract, by a law.
+-- The code's tests are those of `clashing`, an end for a base and a size: `clash-is`.
 use Rattle.regions.proofs.Coded.{clash-is}
 use borrow.Author.Needs.{needs}
 use Rattle.regions.proofs.clash.Statement.{statement}

@@ -1,4 +1,4 @@
--- `holds` meets its contract, by a law.
+-- The code's tests are those of `holdsAddress`, an end for a base and a size: `holds-is`.
 use Rattle.regions.proofs.Coded.{holds-is}
 use borrow.Author.Needs.{needs}
 use Rattle.regions.proofs.holds.Statement.{statement}

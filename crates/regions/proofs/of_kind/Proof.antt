@@ -1,4 +1,4 @@
--- `of_kind` meets its contract. The loop's invariant: the regions left answer as all of them do.
+-- The loop's invariant: the regions left answer as all of them do.
 use Prim.Native.Nat.{_-_, _≤_}
 use mathlib.Core.Path.{_≡_, refl, _∙_}
 use native.Mathlib.Omega.{arith}

@@ -1,4 +1,4 @@
--- `read` meets its contract, by a law for each of its answers.
+-- By a law for each of its answers.
 use mathlib.Core.Path.{refl, sym, _∙_}
 use native.Mathlib.Omega.{arith}
 use Rattle.regions.proofs.Reading.{contents-none, read-length, read-unsound, read-clash, read-sound}

@@ -1,4 +1,4 @@
--- `rows` meets its contract. The loop's invariant: with the rows left, what is read is what all rows are.
+-- The loop's invariant: with the rows left, what is read is what all rows are.
 use Prim.Native.Nat.{_-_}
 use native.Mathlib.Omega.{arith}
 use Rattle.regions.proofs.Bodies.{Read, read-start, read-next, read-done}

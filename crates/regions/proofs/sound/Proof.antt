@@ -1,4 +1,4 @@
--- `sound` meets its contract, by a law.
+-- The code's tests are those of `soundRegion`, an end for a base and a size: `sound-is`.
 use Rattle.regions.proofs.Coded.{sound-is}
 use borrow.Author.Needs.{needs}
 use Rattle.regions.proofs.sound.Statement.{statement}

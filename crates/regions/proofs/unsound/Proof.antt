@@ -1,4 +1,4 @@
--- `unsound` meets its contract. The loop's invariant: the regions left answer as all of them do.
+-- The loop's invariant: the regions left answer as all of them do.
 use Prim.Native.Nat.{_-_, _≤_}
 use mathlib.Core.Path.{_≡_, refl}
 use native.Mathlib.Omega.{arith}

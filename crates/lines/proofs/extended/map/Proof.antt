@@ -1,4 +1,4 @@
--- `map-is`, from what each word's call and each field's ensure.
+-- `map-is`, from what each word's call and the two numbers' ensure.
 use borrow.Author.Needs.{needs}
 use Rattle.mps.specs.Words.{text}
 use Rattle.text.specs.Text.{ended}
@@ -12,23 +12,11 @@ slice-aggregate-word c = search needs
 word-requires : tie.Need-word-requires
 word-requires c κs = search needs
 
-byte-requires : tie.Need-byte-requires
-byte-requires c κs = search needs
+field-requires : tie.Need-field-requires
+field-requires c κs = search needs
 
-cast-decimal : tie.Need-cast-decimal
-cast-decimal c = search needs
-
-decimal-requires : tie.Need-decimal-requires
-decimal-requires c κs = search needs
-
-byte-requires-2 : tie.Need-byte-requires-2
-byte-requires-2 c κs = search needs
-
-cast-decimal-2 : tie.Need-cast-decimal-2
-cast-decimal-2 c = search needs
-
-decimal-requires-2 : tie.Need-decimal-requires-2
-decimal-requires-2 c κs = search needs
+field-requires-2 : tie.Need-field-requires-2
+field-requires-2 c κs = search needs
 
 le64-requires : tie.Need-le64-requires
 le64-requires c κs = search needs
@@ -51,11 +39,10 @@ returns c =
     let y = c .before .before in
     let x = y .before .before .before .before .before in
     let k = x .before .before .before .before .before in
-    let b = k .before .before .before .before .before in
-    let w = b .before .before .before .before .before in
-    map-is (w .before .before .before .before .before .args .e .now)
-    (b .before .byte .ensures) (k .before .byte2 .ensures) (x .before .le64 .ensures) (y .before .le642 .ensures)
-    (w .word .ensures .0) (b .decimal .ensures .0) (k .decimal2 .ensures .0) (x .hex16 .ensures .0) (y .hex162 .ensures .0)
+    let b = k .before .before .before .before in
+    let w = b .before .before .before .before in
+    map-is (w .before .before .before .before .before .args .e .now) (x .before .le64 .ensures) (y .before .le642 .ensures)
+    (w .word .ensures .0) (b .field .ensures .0) (k .field2 .ensures .0) (x .hex16 .ensures .0) (y .hex162 .ensures .0)
 
 pub map-spec : {M : Type 1} → statement M
 map-spec =
@@ -63,12 +50,8 @@ map-spec =
     (tie.spec
     slice-aggregate-word
     word-requires
-    byte-requires
-    cast-decimal
-    decimal-requires
-    byte-requires-2
-    cast-decimal-2
-    decimal-requires-2
+    field-requires
+    field-requires-2
     le64-requires
     hex16-requires
     le64-requires-2

@@ -1,4 +1,4 @@
--- `mod-is`, from what each word's call and each field's ensure.
+-- `mod-is`, from what each word's call, the bit's and the list's ensure.
 use borrow.Author.Needs.{needs}
 use Rattle.mps.specs.Words.{text}
 use Rattle.text.specs.Text.{ended}
@@ -12,6 +12,9 @@ slice-aggregate-word c = search needs
 word-requires : tie.Need-word-requires
 word-requires c κs = search needs
 
+field-requires : tie.Need-field-requires
+field-requires c κs = search needs
+
 byte-requires : tie.Need-byte-requires
 byte-requires c κs = search needs
 
@@ -21,20 +24,11 @@ cast-decimal c = search needs
 decimal-requires : tie.Need-decimal-requires
 decimal-requires c κs = search needs
 
-byte-requires-2 : tie.Need-byte-requires-2
-byte-requires-2 c κs = search needs
-
-cast-decimal-2 : tie.Need-cast-decimal-2
-cast-decimal-2 c = search needs
-
-decimal-requires-2 : tie.Need-decimal-requires-2
-decimal-requires-2 c κs = search needs
-
 le32-requires : tie.Need-le32-requires
 le32-requires c κs = search needs
 
-decimal-requires-3 : tie.Need-decimal-requires-3
-decimal-requires-3 c κs = search needs
+decimal-requires-2 : tie.Need-decimal-requires-2
+decimal-requires-2 c κs = search needs
 
 same-length : tie.Need-same-length
 same-length c = search needs
@@ -45,10 +39,9 @@ returns c =
     let r = c .before .before in
     let l = r .before .before .before .before .before in
     let b = l .before .before .before .before .before in
-    let w = b .before .before .before .before .before in
-    mod-is (w .before .before .before .before .before .args .e .now)
-    (b .before .byte .ensures) (l .before .byte2 .ensures) (r .before .le32 .ensures)
-    (w .word .ensures .0) (b .decimal .ensures .0) (l .decimal2 .ensures .0) (r .decimal3 .ensures .0)
+    let w = b .before .before .before .before in
+    mod-is (w .before .before .before .before .before .args .e .now) (l .before .byte .ensures) (r .before .le32 .ensures)
+    (w .word .ensures .0) (b .field .ensures .0) (l .decimal .ensures .0) (r .decimal2 .ensures .0)
 
 pub modifier-spec : {M : Type 1} → statement M
 modifier-spec =
@@ -56,13 +49,11 @@ modifier-spec =
     (tie.spec
     slice-aggregate-word
     word-requires
+    field-requires
     byte-requires
     cast-decimal
     decimal-requires
-    byte-requires-2
-    cast-decimal-2
-    decimal-requires-2
     le32-requires
-    decimal-requires-3
+    decimal-requires-2
     same-length
     returns)

@@ -1,4 +1,4 @@
--- `skip-is`, from what each word's call and each field's ensure.
+-- `skip-is`, from what each word's call ensures.
 use borrow.Author.Needs.{needs}
 use Rattle.mps.specs.Words.{text}
 use Rattle.text.specs.Text.{ended}
@@ -12,23 +12,11 @@ slice-aggregate-word c = search needs
 word-requires : tie.Need-word-requires
 word-requires c κs = search needs
 
-byte-requires : tie.Need-byte-requires
-byte-requires c κs = search needs
+field-requires : tie.Need-field-requires
+field-requires c κs = search needs
 
-cast-decimal : tie.Need-cast-decimal
-cast-decimal c = search needs
-
-decimal-requires : tie.Need-decimal-requires
-decimal-requires c κs = search needs
-
-byte-requires-2 : tie.Need-byte-requires-2
-byte-requires-2 c κs = search needs
-
-cast-decimal-2 : tie.Need-cast-decimal-2
-cast-decimal-2 c = search needs
-
-decimal-requires-2 : tie.Need-decimal-requires-2
-decimal-requires-2 c κs = search needs
+field-requires-2 : tie.Need-field-requires-2
+field-requires-2 c κs = search needs
 
 same-length : tie.Need-same-length
 same-length c = search needs
@@ -37,10 +25,9 @@ returns : tie.Need-returns
 unfolding ended text
 returns c =
     let n = c .before .before in
-    let k = n .before .before .before .before .before in
-    let w = k .before .before .before .before .before in
-    skip-is (w .before .before .before .before .before .args .e .now) (k .before .byte .ensures) (n .before .byte2 .ensures)
-    (w .word .ensures .0) (k .decimal .ensures .0) (n .decimal2 .ensures .0)
+    let k = n .before .before .before .before in
+    let w = k .before .before .before .before in
+    skip-is (w .before .before .before .before .before .args .e .now) (w .word .ensures .0) (k .field .ensures .0) (n .field2 .ensures .0)
 
 pub skip-spec : {M : Type 1} → statement M
 skip-spec =
@@ -48,11 +35,7 @@ skip-spec =
     (tie.spec
     slice-aggregate-word
     word-requires
-    byte-requires
-    cast-decimal
-    decimal-requires
-    byte-requires-2
-    cast-decimal-2
-    decimal-requires-2
+    field-requires
+    field-requires-2
     same-length
     returns)

@@ -1,4 +1,4 @@
--- `tree-is`, from what each word's call and each field's ensure.
+-- `tree-is`, from what each word's call and the bit's ensure.
 use borrow.Author.Needs.{needs}
 use Rattle.mps.specs.Words.{text}
 use Rattle.text.specs.Text.{ended}
@@ -12,6 +12,12 @@ slice-aggregate-word c = search needs
 word-requires : tie.Need-word-requires
 word-requires c κs = search needs
 
+field-requires : tie.Need-field-requires
+field-requires c κs = search needs
+
+field-requires-2 : tie.Need-field-requires-2
+field-requires-2 c κs = search needs
+
 byte-requires : tie.Need-byte-requires
 byte-requires c κs = search needs
 
@@ -21,24 +27,6 @@ cast-decimal c = search needs
 decimal-requires : tie.Need-decimal-requires
 decimal-requires c κs = search needs
 
-byte-requires-2 : tie.Need-byte-requires-2
-byte-requires-2 c κs = search needs
-
-cast-decimal-2 : tie.Need-cast-decimal-2
-cast-decimal-2 c = search needs
-
-decimal-requires-2 : tie.Need-decimal-requires-2
-decimal-requires-2 c κs = search needs
-
-byte-requires-3 : tie.Need-byte-requires-3
-byte-requires-3 c κs = search needs
-
-cast-decimal-3 : tie.Need-cast-decimal-3
-cast-decimal-3 c = search needs
-
-decimal-requires-3 : tie.Need-decimal-requires-3
-decimal-requires-3 c κs = search needs
-
 same-length : tie.Need-same-length
 same-length c = search needs
 
@@ -47,11 +35,10 @@ unfolding ended text
 returns c =
     let l = c .before .before in
     let p = l .before .before .before .before .before in
-    let b = p .before .before .before .before .before in
-    let w = b .before .before .before .before .before in
-    tree-is (w .before .before .before .before .before .args .e .now)
-    (b .before .byte .ensures) (l .before .byte3 .ensures) (p .before .byte2 .ensures)
-    (w .word .ensures .0) (b .decimal .ensures .0) (p .decimal2 .ensures .0) (l .decimal3 .ensures .0)
+    let b = p .before .before .before .before in
+    let w = b .before .before .before .before in
+    tree-is (w .before .before .before .before .before .args .e .now) (l .before .byte .ensures)
+    (w .word .ensures .0) (b .field .ensures .0) (p .field2 .ensures .0) (l .decimal .ensures .0)
 
 pub tree-spec : {M : Type 1} → statement M
 tree-spec =
@@ -59,14 +46,10 @@ tree-spec =
     (tie.spec
     slice-aggregate-word
     word-requires
+    field-requires
+    field-requires-2
     byte-requires
     cast-decimal
     decimal-requires
-    byte-requires-2
-    cast-decimal-2
-    decimal-requires-2
-    byte-requires-3
-    cast-decimal-3
-    decimal-requires-3
     same-length
     returns)

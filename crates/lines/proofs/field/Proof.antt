@@ -1,7 +1,7 @@
 -- The number that is written is the byte that was read.
 use borrow.Author.Needs.{needs}
-use Rattle.lines.proofs.base.field.Statement.{statement}
-use Rattle.lines.proofs.base.field.Tie as tie
+use Rattle.lines.proofs.field.Statement.{statement}
+use Rattle.lines.proofs.field.Tie as tie
 
 byte-requires : tie.Need-byte-requires
 byte-requires c κs = search needs
