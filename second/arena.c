@@ -13,19 +13,31 @@
 
 uint8_t *input_arena;
 uint8_t *room_arena;
+uint8_t *side_arena;
 
 static const char dump_name[] = "compare-failed.hex";
 
-/* The case under way. */
-static const uint8_t *now_bytes;
-static size_t now_size;
+enum { PIECES_MAX = 5 };
+
+/* The case under way: one piece of bytes, or several. */
+static struct {
+    const uint8_t *bytes;
+    size_t size;
+} now[PIECES_MAX];
+static size_t now_pieces;
 static const char *now_label = "none";
 static unsigned long long now_number;
 
+void add_to_case(const uint8_t *bytes, size_t n)
+{
+    now[now_pieces].bytes = bytes;
+    now[now_pieces++].size = n;
+}
+
 void begin_case(const char *label, const uint8_t *bytes, size_t n)
 {
-    now_bytes = bytes;
-    now_size = n;
+    now_pieces = 0;
+    add_to_case(bytes, n);
     now_label = label;
     now_number++;
 }
@@ -46,24 +58,37 @@ static void say(int fd, const char *s, size_t n)
     }
 }
 
-/* Only write(): it is called from the signal handler too. */
-static void dump_case(void)
+static void dump_piece(int fd, const uint8_t *bytes, size_t size)
 {
     static const char digit[] = "0123456789ABCDEF";
-    int fd = open(dump_name, O_WRONLY | O_CREAT | O_TRUNC, 0644);
     char line[49];
 
-    if (fd < 0)
-        return;
-    for (size_t i = 0; i < now_size; i += 16) {
+    for (size_t i = 0; i < size; i += 16) {
         size_t n = 0;
-        for (size_t k = i; k < i + 16 && k < now_size; k++) {
-            line[n++] = digit[now_bytes[k] >> 4];
-            line[n++] = digit[now_bytes[k] & 15];
+        for (size_t k = i; k < i + 16 && k < size; k++) {
+            line[n++] = digit[bytes[k] >> 4];
+            line[n++] = digit[bytes[k] & 15];
             line[n++] = ' ';
         }
         line[n++] = '\n';
         say(fd, line, n);
+    }
+}
+
+/*
+ * The pieces, each in rows of 16 bytes, an empty line between.  Only write():
+ * it is called from the signal handler too.
+ */
+static void dump_case(void)
+{
+    int fd = open(dump_name, O_WRONLY | O_CREAT | O_TRUNC, 0644);
+
+    if (fd < 0)
+        return;
+    for (size_t i = 0; i < now_pieces; i++) {
+        if (i > 0)
+            say(fd, "\n", 1);
+        dump_piece(fd, now[i].bytes, now[i].size);
     }
     close(fd);
 }
@@ -86,7 +111,7 @@ _Noreturn void fail(const char *what, long long plain, long long ours,
 {
     fprintf(stderr, "FAILED: %s; case %llu (%s), %zu bytes: plain %lld, ours "
             "%lld, expected %lld; bytes in %s\n", what, now_number, now_label,
-            now_size, plain, ours, expected, dump_name);
+            now[0].size, plain, ours, expected, dump_name);
     dump_case();
     exit(1);
 }
@@ -111,6 +136,7 @@ void make_arenas(void)
 
     input_arena = make_arena();
     room_arena = make_arena();
+    side_arena = make_arena();
     sigaction(SIGSEGV, &on, NULL);
     sigaction(SIGBUS, &on, NULL);
 }

@@ -179,6 +179,23 @@ size_t seal(const struct builder *b, uint8_t *out)
     return n;
 }
 
+void unseal(struct builder *b, const uint8_t *image)
+{
+    memcpy(b->header, image, HEADER);
+    b->base_len = base_of(image) - HEADER;
+    b->count = get_le(image + 34, 2);
+    b->ext_len = ext_of(image);
+    memcpy(b->base, image + HEADER, b->base_len);
+    memcpy(b->ext, image + HEADER + b->base_len, b->ext_len);
+}
+
+void small_board(struct builder *b)
+{
+    builder_start(b, 0xFEE00000u);
+    add_processor(b, 0, 3);
+    add_bus(b, 0, "ISA   ");
+}
+
 size_t bench_board(uint8_t *out)
 {
     static const uint8_t board[96] = {

@@ -55,7 +55,13 @@ uint32_t get_le(const uint8_t *p, size_t n);
 
 uint8_t byte_sum(const uint8_t *p, size_t n);
 
+/* A processor and bus 0. */
+void small_board(struct builder *b);
+
 /* The bench board of the paper; answers its length, 96. */
 size_t bench_board(uint8_t *out);
+
+/* A table taken apart again, as its header states its lengths and count. */
+void unseal(struct builder *b, const uint8_t *image);
 
 #endif

@@ -1,9 +1,10 @@
 /*
- * compare COUNT SEED [-v]: judges tables and lists dumps by the plain program
- * and by the library: fixed ones, every single fault, and COUNT generated ones
- * of each.  What is lent touches an unreadable page.  Exit 1 on any difference
- * (the case goes to compare-failed.hex), on bytes changed that may not be, or
- * if an answer was reached in fewer than COUNT / 1,000 cases.
+ * compare COUNT SEED [-v]: judges tables, lists dumps, writes tables from their
+ * parts and edits tables by the plain program and by the library: fixed cases,
+ * single faults, and COUNT generated ones of each.  What is lent touches an
+ * unreadable page.  Exit 1 on any difference (the case goes to
+ * compare-failed.hex), on bytes changed that may not be, or if an answer was
+ * reached in fewer than COUNT / 1,000 cases.
  */
 #include "arena.h"
 #include "cases.h"
@@ -20,16 +21,25 @@ enum { EACH = 20 };   /* how often every single fault, whatever COUNT is */
 
 static struct test_case the_case;
 static struct dump_case the_dump;
+static struct parts_case the_parts;
 static bool loud, enough = true;
+
+static void require(const char *what, number reached, number least)
+{
+    if (reached < least) {
+        printf("FAILED: too seldom: %s\n", what);
+        enough = false;
+    }
+}
 
 /* One line of the report: how often an answer was reached. */
 static void report(int answer, number reached, number count)
 {
-    printf("%3d: %llu\n", answer, reached);
-    if (reached < count / 1000) {
-        printf("FAILED: %d was reached too seldom\n", answer);
-        enough = false;
-    }
+    char name[16];
+
+    snprintf(name, sizeof name, "%3d", answer);
+    printf("%s: %llu\n", name, reached);
+    require(name, reached, count / 1000);
 }
 
 static void single_tables(struct rng *r)
@@ -100,15 +110,68 @@ static void dumps(struct rng *r, number count, const char *seed)
            "seed %s: no difference\n", fixed, single, dump_fault_count(), count,
            seed);
     printf("  0: %llu, and %llu defaults\n", t.listed, t.defaults);
-    if (t.listed < count / 3 || t.defaults < count / 1000) {
-        printf("FAILED: too few listings\n");
-        enough = false;
-    }
+    require("listings", t.listed, count / 3);
+    require("defaults", t.defaults, count / 1000);
     for (int k = 1; k <= 18; k++)
         report(k, t.refused[k], count);
     report(19, t.too_small, count);
     printf("rooms: %llu; 19 counts rooms, the others dumps; longest listing %zu "
            "(fixed: %zu)\n", t.rooms, t.longest, before.longest);
+}
+
+/* Parts of any kind, and those of tables of any kind. */
+static void writes(struct rng *r, number count, const char *seed)
+{
+    struct write_tally before = { 0 }, t = { 0 };
+
+    fixed_parts(r, &before);
+    while (t.cases < count) {
+        if (rng_chance(r, 85)) {
+            gen_parts(r, &the_parts);
+            compare_parts(r, &the_parts, &t);
+        } else {
+            gen_case(r, &the_case);
+            compare_rewritten(r, &the_case, &t);
+        }
+    }
+    printf("parts: %llu fixed, %llu generated, seed %s: no difference\n",
+           before.cases, t.cases, seed);
+    printf("  0: %llu, of them %llu tables written again\n", t.answered[0],
+           t.rewritten);
+    require("tables written", t.answered[0], count / 3);
+    require("tables written again", t.rewritten, count / 100);
+    report(7, t.answered[7], count);
+    for (int k = 10; k <= 18; k++)
+        report(k, t.answered[k], count);
+    report(19, t.too_small, count);
+    printf("rooms: %llu; 19 counts rooms, the others parts; of 13, %llu were "
+           "unwritten\n", t.rooms, t.over_13);
+    require("13 unwritten", t.over_13, count / 1000);
+}
+
+static void edits(struct rng *r, number count, const char *seed)
+{
+    struct edit_tally before = { 0 }, t = { 0 };
+
+    fixed_edits(r, &before);
+    while (t.edits < count) {
+        if (rng_chance(r, 5)) {
+            compare_mending(r, &t);
+        } else {
+            gen_case(r, &the_case);
+            compare_edits(r, &the_case, &t);
+        }
+    }
+    printf("edits: %llu fixed, %llu generated in %llu runs, seed %s: no "
+           "difference\n", before.edits, t.edits, t.runs, seed);
+    printf("  0: %llu\n", t.answered[0]);
+    require("edits made", t.answered[0], count / 4);
+    for (int k = 5; k <= 23; k++)
+        if (k != 19)
+            report(k, t.answered[k], count);
+    printf("the inner numbers of 23:\n");
+    for (int k = 14; k <= 18; k++)
+        report(k, t.inner[k], count);
 }
 
 int main(int argc, char **argv)
@@ -125,5 +188,7 @@ int main(int argc, char **argv)
     make_arenas();
     tables(&r, count, argv[2]);
     dumps(&r, count, argv[2]);
+    writes(&r, count, argv[2]);
+    edits(&r, count, argv[2]);
     return enough ? 0 : 1;
 }

@@ -8,31 +8,16 @@
 #include "arena.h"
 #include "library.h"
 #include "list.h"
+#include "room.h"
 
 #include <stdio.h>
 #include <string.h>
 
-enum { LONGEST = 38213, PATTERN = 1 << 17 };
+enum { LONGEST = 38213 };
 
 typedef uint64_t lister(const uint8_t *dump, size_t n, uint8_t *room, size_t size);
 
-static uint8_t pattern[PATTERN];
 static uint8_t first_room[PATTERN];   /* what the plain lister left */
-
-/* A room and the bytes before it, at the end of its arena. */
-struct lent {
-    uint8_t *room;
-    size_t size;
-    const uint8_t *fill;   /* CANARY bytes, then the room's */
-};
-
-static struct lent lend(struct rng *r, size_t size)
-{
-    struct lent l = { room_arena + ARENA - size, size, pattern };
-
-    l.fill += rng_below(r, (uint32_t)(PATTERN - size - CANARY));
-    return l;
-}
 
 static _Noreturn void differ(const char *what, size_t size, uint64_t plain,
                              uint64_t ours, int expected)
@@ -48,16 +33,12 @@ static _Noreturn void differ(const char *what, size_t size, uint64_t plain,
 static uint64_t call(lister *list, const char *wrong, uint8_t *place,
                      const struct test_case *c, const struct lent *l)
 {
-    uint8_t *before = l->room - CANARY;
-
-    memcpy(before, l->fill, CANARY + l->size);
+    refill(l);
     uint64_t answer = list(place, c->size, l->room, l->size);
     size_t length = answer >> 32 != 0 ? 0 : (size_t)answer;
 
     if (length > l->size || (answer >> 32 != 0 && (uint32_t)answer != 0)
-        || memcmp(before, l->fill, CANARY) != 0
-        || memcmp(l->room + length, l->fill + CANARY + length, l->size - length) != 0
-        || memcmp(place, c->bytes, c->size) != 0)
+        || !stands(l, length) || memcmp(place, c->bytes, c->size) != 0)
         differ(wrong, l->size, answer, answer, c->expected);
     return answer;
 }
@@ -140,8 +121,6 @@ void compare_dump(struct rng *r, const struct dump_case *d, struct tally *t)
     uint8_t *end = input_arena + ARENA - d->c.size;
     uint64_t answer;
 
-    if (pattern[0] == 0)
-        rng_fill(r, pattern, PATTERN), pattern[0] = 1;
     begin_case(d->c.label, d->c.bytes, d->c.size);
     size_t large = LONGEST + rng_below(r, 30000);
     answer = list_at(r, end, &d->c, large, t);

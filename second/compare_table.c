@@ -60,13 +60,6 @@ static void fixed(const char *label, const struct builder *b, int expected)
     compare_table(label, image, seal(b, image), expected);
 }
 
-static void small_board(struct builder *b)
-{
-    builder_start(b, 0xFEE00000u);
-    add_processor(b, 0, 3);
-    add_bus(b, 0, "ISA   ");
-}
-
 /* 4,096 bytes: a processor, a bus and 503 interrupts to all I/O APICs. */
 static void base_4096(struct builder *b)
 {

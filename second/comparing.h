@@ -3,6 +3,8 @@
 #define SECOND_COMPARING_H
 
 #include "dumps.h"
+#include "edits.h"
+#include "parts.h"
 #include "random.h"
 
 /* Judges one table by both; answers the number both agree on. */
@@ -26,5 +28,43 @@ void compare_dump(struct rng *r, const struct dump_case *d, struct tally *t);
 
 /* The bench board's eight lines, boundaries of every rule, and others. */
 void fixed_dumps(struct rng *r, struct tally *t);
+
+/* How the writing calls of a run ended. */
+struct write_tally {
+    unsigned long long cases;
+    unsigned long long answered[19];       /* cases, by number */
+    unsigned long long over_13;            /* of 13: by the length, unwritten */
+    unsigned long long rewritten;          /* accepted tables, from their parts */
+    unsigned long long rooms;              /* calls, each by both */
+    unsigned long long too_small;          /* of these: 19 */
+};
+
+/* Writes a table of these parts by both into rooms of several sizes. */
+void compare_parts(struct rng *r, const struct parts_case *c,
+                   struct write_tally *t);
+
+/* The same of a table's parts; an accepted one must come out as it was. */
+void compare_rewritten(struct rng *r, const struct test_case *table,
+                       struct write_tally *t);
+
+/* The bench board in every room, both sides of 4,096, and others. */
+void fixed_parts(struct rng *r, struct write_tally *t);
+
+/* How the edits of a run ended. */
+struct edit_tally {
+    unsigned long long runs, edits;
+    unsigned long long answered[24];       /* edits, by number */
+    unsigned long long inner[19];          /* of 23: by the inner number */
+};
+
+/* A run of edits by both on a table of any kind. */
+void compare_edits(struct rng *r, const struct test_case *c,
+                   struct edit_tally *t);
+
+/* One edit that would mend a broken table, which is refused as it stands. */
+void compare_mending(struct rng *r, struct edit_tally *t);
+
+/* The paper's own edits, every byte and length on the bench board, and others. */
+void fixed_edits(struct rng *r, struct edit_tally *t);
 
 #endif

@@ -36,15 +36,6 @@ static void add(struct set *s, uint8_t id)
     s->word[id >> 6] |= (uint64_t)1 << (id & 63);
 }
 
-static uint8_t sum(const uint8_t *p, size_t n)
-{
-    uint8_t s = 0;
-
-    for (size_t i = 0; i < n; i++)
-        s += p[i];
-    return s;
-}
-
 /* Rules 5 to 9: the header, and the base part as a whole. */
 static uint8_t judge_header(const uint8_t *t, size_t n)
 {

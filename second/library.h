@@ -15,4 +15,22 @@ uint8_t ruxtajma_judge(const uint8_t *t, size_t n);
 uint64_t ruxtajma_list(const uint8_t *dump, size_t length, uint8_t *room,
                        size_t room_length);
 
+/*
+ * As plain_write() of write.h, and its answer as above.  Of an OEM ID longer
+ * than 8 bytes, or a product longer than 12, the rest is not taken; a shorter
+ * one is filled up with zeros.
+ */
+uint64_t ruxtajma_write(const uint8_t *oem, size_t oem_length,
+                        const uint8_t *product, size_t product_length,
+                        uint32_t pointer, uint16_t size, uint32_t apic,
+                        uint8_t reserved,
+                        const uint8_t *base, size_t base_length,
+                        const uint8_t *extended, size_t extended_length,
+                        uint8_t *room, size_t room_length);
+
+/* As plain_edit() of edit.h. */
+uint32_t ruxtajma_edit(uint8_t *table, size_t length, size_t place,
+                       const uint8_t *stated, size_t stated_length,
+                       const uint8_t *wanted, size_t wanted_length);
+
 #endif

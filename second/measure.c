@@ -1,6 +1,7 @@
 /*
  * measure [ROUNDS]: ns per call of the plain program (-O2 and -O3) and of the
- * library, judging and listing, all in one process, the three taking turns.
+ * library, judging, listing, editing and writing, all in one process, the three
+ * taking turns.
  */
 #define _GNU_SOURCE
 
@@ -24,7 +25,7 @@ static double now_ns(void)
 }
 
 /* call_program() is in another file: nothing of a call is left out. */
-static double run(int program, const struct subject *s, uint32_t calls)
+static double run(int program, struct subject *s, uint32_t calls)
 {
     double start = now_ns();
 
@@ -33,7 +34,7 @@ static double run(int program, const struct subject *s, uint32_t calls)
     return now_ns() - start;
 }
 
-static uint32_t calibrate(int program, const struct subject *s)
+static uint32_t calibrate(int program, struct subject *s)
 {
     uint32_t calls = 16;
 
@@ -77,20 +78,37 @@ static void measure(struct subject *s, int rounds)
     }
 }
 
-static void print_against(bool dump, int plain, const char *flags)
+static const struct {
+    const char *title, *subject, *column, *word;
+} works[WORKS] = {
+    [JUDGE] = { "judging tables", "table", "", "judge" },
+    [LIST] = { "listing dumps", "dump", "listed", "list" },
+    [EDIT_MIDDLE] = { "an edit in the middle", "table", "place", "edit middle" },
+    [EDIT_LAST] = { "an edit at the last place", "table", "place", "edit last" },
+    [EDIT_REFUSED] = { "an edit there, refused with 23", "table", "place", "edit 23" },
+    [WRITE] = { "writing tables", "table", "made", "write" },
+};
+
+/* What stands in the third column. */
+static unsigned shown(const struct subject *s)
 {
-    printf("\nns per call, ours against plain %s: %s\n", flags,
-           dump ? "listing dumps" : "judging tables");
+    return s->work == LIST || s->work == WRITE ? (unsigned)(uint32_t)s->answer
+                                               : (unsigned)s->place;
+}
+
+static void print_against(enum work work, int plain, const char *flags)
+{
+    printf("\nns per call, ours against plain %s: %s\n", flags, works[work].title);
     printf("%-22s %6s %6s | %9s %9s | %9s %9s | %7s %7s %7s\n",
-           dump ? "dump" : "table", "bytes", dump ? "listed" : "", "ours med",
-           "min", "plain med", "min", "o/p med", "o/p min", "paired");
+           works[work].subject, "bytes", works[work].column, "ours med", "min",
+           "plain med", "min", "o/p med", "o/p min", "paired");
     for (size_t i = 0; i < subject_count; i++) {
         const struct subject *s = &subjects[i];
 
-        if (s->dump != dump)
+        if (s->work != work)
             continue;
         printf("%-22s %6zu %6u | %9.1f %9.1f | %9.1f %9.1f | %7.2f %7.2f %7.2f\n",
-               s->name, s->size, (unsigned)(uint32_t)s->answer,
+               s->name, s->size, shown(s),
                s->median[OURS], s->least[OURS], s->median[plain], s->least[plain],
                s->median[OURS] / s->median[plain],
                s->least[OURS] / s->least[plain], s->paired[plain]);
@@ -100,14 +118,14 @@ static void print_against(bool dump, int plain, const char *flags)
 static void print_growth(void)
 {
     printf("\ngrowth, full / half (medians; minima in brackets)\n");
-    printf("%-6s %-22s %14s %14s %14s\n", "", "", "ours", "plain -O2",
+    printf("%-11s %-22s %14s %14s %14s\n", "", "", "ours", "plain -O2",
            "plain -O3");
     for (size_t i = 0; i + 1 < subject_count; i++) {
         const struct subject *f = &subjects[i], *h = &subjects[i + 1];
 
         if (!f->full)
             continue;
-        printf("%-6s %-22s", f->dump ? "list" : "judge", f->name);
+        printf("%-11s %-22s", works[f->work].word, f->name);
         for (int j = 0; j < PROGRAMS; j++)
             printf("  %5.2f (%5.2f)", f->median[j] / h->median[j],
                    f->least[j] / h->least[j]);
@@ -127,9 +145,9 @@ int main(int argc, char **argv)
     for (size_t i = 0; i < subject_count; i++)
         measure(&subjects[i], rounds);
     printf("%d rounds of about 2 ms each, the programs taking turns\n", rounds);
-    for (int dump = 0; dump < 2; dump++) {
-        print_against(dump, PLAIN_O2, "-O2");
-        print_against(dump, PLAIN_O3, "-O3");
+    for (enum work work = 0; work < WORKS; work++) {
+        print_against(work, PLAIN_O2, "-O2");
+        print_against(work, PLAIN_O3, "-O3");
     }
     print_growth();
     return 0;

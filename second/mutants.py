@@ -1,10 +1,11 @@
 #!/usr/bin/env python3
-"""Tests compare itself: each mutant of judge.c, dump.c or list.c stands in for
-the library and must be found.  mutants.py [COUNT]; exit 1 if one survives."""
+"""Tests compare itself: each mutant of judge.c, dump.c, list.c, write.c or edit.c
+stands in for the library and must be found.  mutants.py [COUNT [SOURCE...]], as
+in "mutants.py 20000 write edit"; exit 1 if one survives."""
 import os, subprocess, sys, tempfile
 
 sys.dont_write_bytecode = True   # nothing is left beside the sources
-import mutants_listing
+import mutants_edits, mutants_listing
 
 HERE = os.path.dirname(os.path.abspath(__file__))
 COUNT = sys.argv[1] if len(sys.argv) > 1 else "20000"
@@ -137,12 +138,21 @@ JUDGE = [
 # that lacks its last byte does not end with the last body; 1 either way.
 EQUAL = {(13, "length 1 allowed"), (1, "body cut by one")}
 
-SOURCES = {"judge": JUDGE, "dump": mutants_listing.DUMP, "list": mutants_listing.LIST}
+SOURCES = {"judge": JUDGE, "dump": mutants_listing.DUMP, "list": mutants_listing.LIST,
+           "write": mutants_edits.WRITE, "edit": mutants_edits.EDIT, "names": mutants_edits.NAMES}
 PROGRAMS = {"measure", "subjects", "boards", "list_program"}   # not part of compare
 
 # The stand-in is the plain program once more, under the library's names.
-RENAMED = ["-Dplain_judge=ruxtajma_judge", "-Dplain_list=ruxtajma_list",
-           "-Dplain_judge_walk=mutant_judge_walk", "-Dplain_find=mutant_find"]
+RENAMED = ["-Dplain_judge=ruxtajma_judge", "-Dplain_list=ruxtajma_list", "-Dplain_edit=ruxtajma_edit",
+           "-Dplain_judge_walk=mutant_judge_walk", "-Dplain_find=mutant_find",
+           "-Dplain_write=mutant_write", "-Dplain_parts=mutant_parts"]
+
+def text_of(name):
+    """The source of a part of the stand-in; "names" is one that it has alone."""
+    if name == "names":
+        return mutants_edits.NAMES_SOURCE
+    with open(os.path.join(HERE, f"{name}.c")) as f:
+        return f.read()
 
 def run(cmd, cwd):
     return subprocess.run(cmd, cwd=cwd, capture_output=True, text=True)
@@ -151,11 +161,14 @@ def compile(source, to, tmp, *flags):
     r = run(["cc", "-std=c11", "-O2", "-w", f"-I{HERE}", *flags, "-c", source, "-o", to], tmp)
     assert r.returncode == 0, (source, r.stderr)
 
-def outcome(parts, mutated, text, tmp):
-    """What compare says of a library with one source replaced by the text."""
+def compile_text(text, to, tmp):
     with open(f"{tmp}/mutant.c", "w") as f:
         f.write(text)
-    compile("mutant.c", "mutant.o", tmp, *RENAMED)
+    compile("mutant.c", to, tmp, *RENAMED)
+
+def outcome(parts, mutated, text, tmp):
+    """What compare says of a library with one source replaced by the text."""
+    compile_text(text, "mutant.o", tmp)
     others = [f"library_{name}.o" for name in SOURCES if name != mutated]
     r = run(["cc", *(f"{f}.o" for f in parts), "mutant.o", *others, "-o", "compare"], tmp)
     assert r.returncode == 0, r.stderr
@@ -168,10 +181,10 @@ def main():
         for f in parts:
             compile(f"{HERE}/{f}.c", f"{f}.o", tmp)
         for name in SOURCES:
-            compile(f"{HERE}/{name}.c", f"library_{name}.o", tmp, *RENAMED)
-        for name, mutants in SOURCES.items():
-            source = open(os.path.join(HERE, f"{name}.c")).read()
-            for rule, what, old, new in mutants:
+            compile_text(text_of(name), f"library_{name}.o", tmp)
+        for name in sys.argv[2:] or SOURCES:
+            source = text_of(name)
+            for rule, what, old, new in SOURCES[name]:
                 assert source.count(old) == 1, (name, rule, what, source.count(old))
                 r = outcome(parts, name, source.replace(old, new), tmp)
                 caught = r.returncode == 1

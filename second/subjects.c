@@ -2,6 +2,7 @@
 #include "subjects.h"
 
 #include "boards.h"
+#include "edit.h"
 #include "judge.h"
 #include "library.h"
 #include "list.h"
@@ -19,7 +20,7 @@ static struct builder b;
 static const struct {
     const char *name;
     make_board *make;
-    bool listed;
+    bool often;   /* listed, edited and written too */
 } kinds[] = {
     { "a mixed", make_mixed, true },
     { "b interrupts+mappings", make_interrupts, true },
@@ -31,14 +32,10 @@ static const struct {
 
 enum { KINDS = sizeof kinds / sizeof kinds[0] };
 
-uint64_t call_program(int program, const struct subject *s)
+/* ---- calls ---- */
+
+static uint64_t judge_by(int program, const struct subject *s)
 {
-    if (s->dump)
-        switch (program) {
-        case OURS: return ruxtajma_list(s->bytes, s->size, room, sizeof room);
-        case PLAIN_O2: return plain_list(s->bytes, s->size, room, sizeof room);
-        default: return plain_list_o3(s->bytes, s->size, room, sizeof room);
-        }
     switch (program) {
     case OURS: return ruxtajma_judge(s->bytes, s->size);
     case PLAIN_O2: return plain_judge(s->bytes, s->size);
@@ -46,24 +43,87 @@ uint64_t call_program(int program, const struct subject *s)
     }
 }
 
-static struct subject *next(const char *name, bool dump, bool full)
+static uint64_t list_by(int program, const struct subject *s)
+{
+    switch (program) {
+    case OURS: return ruxtajma_list(s->bytes, s->size, room, sizeof room);
+    case PLAIN_O2: return plain_list(s->bytes, s->size, room, sizeof room);
+    default: return plain_list_o3(s->bytes, s->size, room, sizeof room);
+    }
+}
+
+static uint64_t edit_by(int program, struct subject *s)
+{
+    const uint8_t *stated = s->entry[s->turn], *wanted = s->entry[!s->turn];
+    size_t n = s->entry_size;
+    uint32_t answer;
+
+    switch (program) {
+    case OURS:
+        answer = ruxtajma_edit(s->bytes, s->size, s->place, stated, n, wanted, n);
+        break;
+    case PLAIN_O2:
+        answer = plain_edit(s->bytes, s->size, s->place, stated, n, wanted, n);
+        break;
+    default:
+        answer = plain_edit_o3(s->bytes, s->size, s->place, stated, n, wanted, n);
+    }
+    s->turn ^= answer == 0;
+    return answer;
+}
+
+static uint64_t write_by(int program, const struct subject *s)
+{
+    const struct fields *f = &s->parts.fields;
+    const uint8_t *base = s->bytes + HEADER, *ext = s->bytes + s->parts.base_end;
+    size_t base_n = s->parts.base_end - HEADER;
+    size_t ext_n = s->parts.ext_end - s->parts.base_end;
+
+    switch (program) {
+    case OURS:
+        return ruxtajma_write(f->oem_id, sizeof f->oem_id,
+                              f->product, sizeof f->product, f->oem_pointer,
+                              f->oem_size, f->local_apic, f->reserved,
+                              base, base_n, ext, ext_n, room, sizeof room);
+    case PLAIN_O2:
+        return plain_write(f, base, base_n, ext, ext_n, room, sizeof room);
+    default:
+        return plain_write_o3(f, base, base_n, ext, ext_n, room, sizeof room);
+    }
+}
+
+uint64_t call_program(int program, struct subject *s)
+{
+    switch (s->work) {
+    case JUDGE: return judge_by(program, s);
+    case LIST: return list_by(program, s);
+    case WRITE: return write_by(program, s);
+    default: return edit_by(program, s);
+    }
+}
+
+/* ---- subjects ---- */
+
+static struct subject *next(const char *name, enum work work, bool full)
 {
     struct subject *s = &subjects[subject_count++];
 
     s->name = name;
-    s->dump = dump;
+    s->work = work;
     s->full = full;
     return s;
 }
 
-/* Tables are accepted; a dump is listed, or refused for the reason meant. */
+/* All are accepted, or refused for the reason meant, and by all alike. */
 static void check(struct subject *s, uint32_t refusal)
 {
+    bool counted = s->work == LIST || s->work == WRITE;
+
     s->answer = call_program(PLAIN_O2, s);
     for (int j = 0; j < PROGRAMS; j++) {
         uint64_t answer = call_program(j, s);
 
-        if (answer != s->answer || (s->dump ? answer >> 32 : answer) != refusal) {
+        if (answer != s->answer || (counted ? answer >> 32 : answer) != refusal) {
             fprintf(stderr, "%s, %zu bytes: program %d answers %llX\n", s->name,
                     s->size, j, (unsigned long long)answer);
             exit(1);
@@ -84,51 +144,62 @@ static void fill_board(size_t kind, uint32_t part)
     }
 }
 
+static void fill_bench_board(void)
+{
+    uint8_t board[HEADER + 52];
+
+    bench_board(board);
+    unseal(&b, board);
+}
+
+static void fill_typical(void)
+{
+    builder_start(&b, 0xFEE00000u);
+    make_typical(&b);
+}
+
+/* The board in b, as a table. */
+static void judged(const char *name, bool full)
+{
+    struct subject *s = next(name, JUDGE, full);
+
+    s->size = seal(&b, s->bytes);
+    check(s, 0);
+}
+
 static void judged_tables(void)
 {
-    struct subject *s = next("bench board", false, false);
-
-    s->size = bench_board(s->bytes);
-    check(s, 0);
+    fill_bench_board();
+    judged("bench board", false);
     for (size_t k = 0; k < KINDS; k++)
         for (uint32_t part = 1; part <= 2; part++) {
             fill_board(k, part);
-            s = next(kinds[k].name, false, part == 1);
-            s->size = seal(&b, s->bytes);
-            check(s, 0);
+            judged(kinds[k].name, part == 1);
         }
 }
 
-/* The bench board of the paper as a dump: its table behind a pointer. */
-static void bench_dump(struct subject *s)
-{
-    static const uint8_t front[26] = {
-        0x01, 0x03, 0x00, 0x00, 0x0F, 0x00, 0x70, 0x00, 0x00, 0x00,
-        0x5F, 0x4D, 0x50, 0x5F, 0x10, 0x00, 0x0F, 0x00, 0x01, 0x04, 0x81,
-    };
+/* Makes a subject of the board in b. */
+typedef void make_subject(const char *name, bool full, enum work work);
 
-    memcpy(s->bytes, front, sizeof front);
-    s->size = sizeof front + bench_board(s->bytes + sizeof front);
+static void each_board(make_subject *make, enum work work)
+{
+    fill_bench_board();
+    make("bench board", false, work);
+    fill_typical();
+    make("typical, 40 entries", false, work);
+    for (size_t k = 0; k < KINDS; k++)
+        for (uint32_t part = 1; kinds[k].often && part <= 2; part++) {
+            fill_board(k, part);
+            make(kinds[k].name, part == 1, work);
+        }
 }
 
-static void listed_boards(void)
+static void listed(const char *name, bool full, enum work work)
 {
-    struct subject *s = next("bench board", true, false);
+    struct subject *s = next(name, work, full);
 
-    bench_dump(s);
-    check(s, 0);
-    builder_start(&b, 0xFEE00000u);
-    make_typical(&b);
-    s = next("typical, 40 entries", true, false);
     s->size = dump_around(&b, 0, false, s->bytes);
     check(s, 0);
-    for (size_t k = 0; k < KINDS; k++)
-        for (uint32_t part = 1; kinds[k].listed && part <= 2; part++) {
-            fill_board(k, part);
-            s = next(kinds[k].name, true, part == 1);
-            s->size = dump_around(&b, 0, false, s->bytes);
-            check(s, 0);
-        }
 }
 
 /* The typical board in a large region, its pointer found last or not at all. */
@@ -136,24 +207,64 @@ static void large_dumps(void)
 {
     struct subject *s;
 
-    builder_start(&b, 0xFEE00000u);
-    make_typical(&b);
+    fill_typical();
     for (uint32_t part = 1; part <= 2; part++) {
-        s = next("typical, pointer last", true, part == 1);
+        s = next("typical, pointer last", LIST, part == 1);
         s->size = dump_around(&b, SUBJECT_ROOM / part, true, s->bytes);
         check(s, 0);
     }
     for (uint32_t part = 1; part <= 2; part++) {
-        s = next("no pointer: refused 2", true, part == 1);
+        s = next("no pointer: refused 2", LIST, part == 1);
         s->size = dump_around(&b, SUBJECT_ROOM / part, false, s->bytes);
         memset(s->bytes + 10, 0, 16);
         check(s, 2);
     }
 }
 
+/* A byte that decides nothing: a version, or an interrupt's IRQ. */
+static size_t free_byte(const uint8_t *entry)
+{
+    return entry[0] == 3 || entry[0] == 4 ? 5 : 2;
+}
+
+/*
+ * No bus stands in the middle or last, and the last is an interrupt: its type 4
+ * is refused with 17.
+ */
+static void edited(const char *name, bool full, enum work work)
+{
+    struct subject *s = next(name, work, full);
+    size_t at = 0;
+
+    s->size = seal(&b, s->bytes);
+    s->place = work == EDIT_MIDDLE ? b.count / 2 : b.count - 1;
+    for (size_t i = 0; i < s->place; i++)
+        at += b.base[at] == 0 ? 20 : 8;
+    s->entry_size = b.base[at] == 0 ? 20 : 8;
+    memcpy(s->entry[0], b.base + at, s->entry_size);
+    memcpy(s->entry[1], b.base + at, s->entry_size);
+    if (work == EDIT_REFUSED)
+        s->entry[1][1] = 4;
+    else
+        s->entry[1][free_byte(s->entry[1])] ^= 1;
+    check(s, work == EDIT_REFUSED ? 23 | 17 << 8 : 0);
+}
+
+static void written(const char *name, bool full, enum work work)
+{
+    struct subject *s = next(name, work, full);
+
+    s->size = seal(&b, s->bytes);
+    plain_parts(s->bytes, &s->parts);
+    check(s, 0);
+}
+
 void make_subjects(void)
 {
     judged_tables();
-    listed_boards();
+    each_board(listed, LIST);
     large_dumps();
+    for (enum work work = EDIT_MIDDLE; work <= EDIT_REFUSED; work++)
+        each_board(edited, work);
+    each_board(written, WRITE);
 }

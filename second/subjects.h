@@ -1,25 +1,41 @@
-/* What is measured: tables to judge and dumps to list. */
+/* What is measured: tables to judge, edit and write, and dumps to list. */
 #ifndef SECOND_SUBJECTS_H
 #define SECOND_SUBJECTS_H
 
-#include <stdbool.h>
-#include <stddef.h>
-#include <stdint.h>
+#include "write.h"
 
-/* judge.c, dump.c and list.c again, compiled with -O3. */
+#include <stdbool.h>
+
+/* The plain program again, compiled with -O3. */
 uint8_t plain_judge_o3(const uint8_t *t, size_t n);
 uint64_t plain_list_o3(const uint8_t *dump, size_t n, uint8_t *room, size_t size);
+uint64_t plain_write_o3(const struct fields *f, const uint8_t *base,
+                        size_t base_length, const uint8_t *ext, size_t ext_length,
+                        uint8_t *room, size_t size);
+uint32_t plain_edit_o3(uint8_t *t, size_t n, size_t place,
+                       const uint8_t *stated, size_t stated_length,
+                       const uint8_t *wanted, size_t wanted_length);
 
 enum { OURS, PLAIN_O2, PLAIN_O3, PROGRAMS };
-enum { SUBJECTS_MAX = 32, SUBJECT_ROOM = 65536 };
+enum { SUBJECTS_MAX = 64, SUBJECT_ROOM = 65536 };
+
+enum work { JUDGE, LIST, EDIT_MIDDLE, EDIT_LAST, EDIT_REFUSED, WRITE, WORKS };
 
 struct subject {
     const char *name;
-    bool dump;                 /* to list; else a table to judge */
+    enum work work;
     bool full;                 /* the next subject is half of it */
     size_t size;
-    uint64_t answer;           /* of the listing */
+    uint64_t answer;
     uint8_t bytes[SUBJECT_ROOM];
+
+    /* Of an edit: what stands there first, and what is put in its place. */
+    size_t place, entry_size;
+    uint8_t entry[2][20];
+    bool turn;                 /* the other way round */
+
+    struct parts parts;        /* of a table to write */
+
     double median[PROGRAMS], least[PROGRAMS];   /* ns per call */
     double paired[PROGRAMS];   /* median over the rounds of ours / this */
 };
@@ -29,7 +45,10 @@ extern size_t subject_count;
 
 void make_subjects(void);
 
-/* One call of a program on a subject; a listing goes into a large room. */
-uint64_t call_program(int program, const struct subject *s);
+/*
+ * One call of a program on a subject.  Listings and images go into a large
+ * room.  Each accepted edit takes back the one before it, whoever made that.
+ */
+uint64_t call_program(int program, struct subject *s);
 
 #endif

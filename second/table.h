@@ -1,4 +1,4 @@
-/* The layout of an MP table (document 01, "The table"), for judge and listing. */
+/* The layout of an MP table (document 01, "The table"), for the plain program. */
 #ifndef PLAIN_TABLE_H
 #define PLAIN_TABLE_H
 
@@ -47,6 +47,28 @@ static inline uint32_t get32(const uint8_t *p)
 static inline uint64_t get64(const uint8_t *p)
 {
     return get32(p) | (uint64_t)get32(p + 4) << 32;
+}
+
+static inline void put16(uint8_t *p, uint32_t v)
+{
+    p[0] = (uint8_t)v;
+    p[1] = (uint8_t)(v >> 8);
+}
+
+static inline void put32(uint8_t *p, uint32_t v)
+{
+    put16(p, v);
+    put16(p + 2, v >> 16);
+}
+
+/* "Sums taken modulo 256". */
+static inline uint8_t sum(const uint8_t *p, size_t n)
+{
+    uint8_t s = 0;
+
+    for (size_t i = 0; i < n; i++)
+        s += p[i];
+    return s;
 }
 
 #endif

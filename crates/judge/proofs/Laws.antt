@@ -1,5 +1,5 @@
 -- What a caller may use of the judge's answers. Assumes nothing.
-use Prim.Native.Nat.{ℕ, zero, suc, _≤_}
+use Prim.Native.Nat.{ℕ, zero, suc}
 use mathlib.Core.Path.{_≡_, refl, sym, ap, _∙_}
 use mathlib.Core.Bool.{Bool, true, false, cond, true≢false}
 use mathlib.Core.List.{List}
@@ -7,8 +7,7 @@ use native.Mathlib.Omega.{arith}
 use Rattle.mps.specs.Words.{head}
 use Rattle.mps.specs.Refusals.{refusal}
 use Rattle.mps.specs.Answers.{examinedOf, examinedNumbers}
-use lib.ListN.{length}
-use Rattle.mps.specs.Layout.{headerSize, baseLength, extendedEnd, baseEntries, extendedEntries}
+use Rattle.mps.specs.Layout.{baseEntries, extendedEntries}
 use Rattle.mps.specs.Table.{wrongExtendedPart, walkFrom, wrongExtended, extendedFrom}
 use Rattle.mps.specs.Sections.{sections}
 use Rattle.mps.specs.Judge.{tableRefusal, judged, examined}
@@ -100,18 +99,3 @@ accepted-placed t bytes e =
 -- and so are those that the examiner answers.
 pub accepted-places : (t : List ℕ) {r : Examined} {p : Sections} → Bytes t → r ≡ examined t → r ≡ Examined·Accepted p → Placed t p
 accepted-places t bytes e q = rw (accepted-sections t e q) (accepted-placed t bytes (sym (accepted-number t e q)))
-
--- Its parts lie inside its buffer.
-pub record Inside (t : List ℕ) : Type 0 where
-  pub low : headerSize ≤ baseLength t
-  pub base : baseLength t ≤ length t
-  pub extended : extendedEnd t ≤ length t
-
-pub accepted-inside : (t : List ℕ) → tableRefusal t ≡ 0 → Inside t
-accepted-inside t e =
-    let header = first-none (headerRefusal t) _ (sym (stages t) ∙ e) in
-    let h = header-passed t (header .0) in
-    let walk = first-none (walkNumber t) _ (header .1) in
-    let extended = cond-passed (wrongExtended t) 12 (refusal (from14 t)) (walk .1) in
-    let parts = or-parts (wrongExtendedPart t) (extendedFrom 0 (extendedEntries t)) (sym (extended-stages t) ∙ extended) in
-    record { low = h .low; base = h .inside; extended = extended-fits t (parts .0) }

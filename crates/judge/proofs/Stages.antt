@@ -4,45 +4,19 @@ use mathlib.Core.Path.{_≡_, refl, ap, _∙_}
 use mathlib.Core.Bool.{Bool, true, false, cond, not, _||_, _&&_}
 use mathlib.Core.List.{List, [], _∷_, _++_}
 use lib.ListN.{length}
-use lib.Dec.{eqb, ltb}
+use lib.Dec.{eqb}
 use Rattle.mps.specs.Words.{first, among, each}
 use Rattle.mps.specs.Refusals.{_when_, refusal, extendedNumber}
-use Rattle.mps.specs.Layout.{Entry, entryCount, baseEntries, extendedEntries, baseEntryLength}
-use Rattle.mps.specs.Table.{wrongExtendedPart, entryFault, walkFrom, walkFault, wrongType, cutOrMiscounted, descendingType, wrongExtended, extendedFrom}
+use Rattle.mps.specs.Layout.{entryCount, baseEntries, extendedEntries}
+use Rattle.mps.specs.Table.{wrongExtendedPart, walkFault, wrongType, cutOrMiscounted, descendingType, wrongExtended, extendedFrom}
 use Rattle.mps.specs.Judge.{tableRules, tableRefusal}
 use Rattle.laws.proofs.Refusals.{refusal-append}
+use Rattle.accepted.proofs.Walk.{Fault, none, type, cut, order, walk-fault}
 use Rattle.header.specs.Header.{headerRules, headerRefusal}
 use Rattle.sections.specs.Runs.{baseFault}
 use Rattle.judge.specs.Stages.{walkRules, walkNumber, from14}
 
 -- ---- The walk has one fault, and each of its rows asks whether it is its own
-
--- A fault of the walk is none, 10, 11 or 12.
-pub data Fault : ℕ → Type 0 where
-  none : Fault 0
-  type : Fault 10
-  cut : Fault 11
-  order : Fault 12
-
-fault-choose : (a b c : Bool) → Fault (cond a 10 (cond b 11 (cond c 12 0)))
-fault-choose true b c = type
-fault-choose false true c = cut
-fault-choose false false true = order
-fault-choose false false false = none
-
-fault-first : {a b : ℕ} → Fault a → Fault b → Fault (first a b)
-fault-first none g = g
-fault-first type g = type
-fault-first cut g = cut
-fault-first order g = order
-
-pub walk-fault : (before : ℕ) (es : List Entry) → Fault (walkFrom before es)
-unfolding walkFrom entryFault
-walk-fault before [] = none
-walk-fault before (e ∷ es) =
-    fault-first
-    (fault-choose (ltb 4 (Rattle.mps.specs.Layout.type e)) (ltb (length e) (baseEntryLength e)) (ltb (Rattle.mps.specs.Layout.type e) before))
-    (walk-fault (Rattle.mps.specs.Layout.type e) es)
 
 -- The rows of a fault w, where the count is right or not.
 walk-rows : {w : ℕ} (right : Bool) → Fault w

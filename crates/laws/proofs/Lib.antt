@@ -2,9 +2,9 @@ pub mod Tests
 pub mod Bits
 pub mod Lists
 pub mod Pigeons
+pub mod Parts
 pub mod Stores
 pub mod Cut
-pub mod Parts
 pub mod Rows
 pub mod Small
 pub mod Refusals

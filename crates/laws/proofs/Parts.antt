@@ -1,14 +1,15 @@
 -- Laws of `part`, the bytes from one place up to another. Assumes nothing.
-use Prim.Native.Nat.{ℕ, zero, suc, _+_, _-_, _≤_, min}
+use Prim.Native.Nat.{ℕ, zero, suc, _+_, _-_, _≤_, _<_, min}
 use mathlib.Core.Path.{_≡_, ap, sym, _∙_}
-use mathlib.Core.List.{List, [], _∷_}
+use mathlib.Core.List.{List, [], _∷_, _++_}
 use native.Mathlib.Nat.{zero-min, min-zero, suc-min-suc, zero-sub, sub-zero, suc-sub-suc}
+use native.Mathlib.Numerals.{add-one}
 use native.Mathlib.Omega.{arith}
 use lib.Dec.{leb}
 use lib.ListN.{length, take, drop, length-drop, drop-of-length-le}
-use lib.Seq.{take-take, take-nil, drop-nil, drop-drop, length-take-le}
+use lib.Seq.{take-take, take-add, take-at, getD-take, take-nil, drop-at, drop-nil, drop-drop, drop-cons, length-take-le}
 use borrow.Author.Tests.{leb-true, leb-false}
-use Rattle.mps.specs.Words.{part}
+use Rattle.mps.specs.Words.{byte, part}
 use Rattle.laws.proofs.Tests.{whether}
 
 pub drop-take : (a k : ℕ) (s : List ℕ) → drop a (take k s) ≡ take (k - a) (drop a s)
@@ -61,3 +62,37 @@ drop-inside n s =
     (λ h.
     let k = leb-false n (length s) h in
     drop-of-length-le s {i = min n (length s)} (omega arith) ∙ sym (drop-of-length-le s {i = n} (omega arith)))
+
+-- Two lists with the same first n bytes: what reads no other byte reads the same of both.
+module _ (n : ℕ) (t u : List ℕ) (same : take n u ≡ take n t) where
+  pub alike : {A : Type 0} (f : List ℕ → A) → ((s : List ℕ) → f (take n s) ≡ f s) → f u ≡ f t
+  alike f h = sym (h u) ∙ ap f same ∙ h t
+
+  pub alike-take : (k : ℕ) → k ≤ n → take k u ≡ take k t
+  alike-take k h = alike (take k) (λ s. take-take k n s h)
+
+  pub alike-byte : (i : ℕ) → i < n → byte u i ≡ byte t i
+  alike-byte i h = alike (λ (s : List ℕ). byte s i) (λ s. getD-take n s i 0 h)
+
+  pub alike-part : (a b : ℕ) → b ≤ n → part a b u ≡ part a b t
+  alike-part a b h = alike (part a b) (λ s. rw (drop-take a n s) (take-take (b - a) (n - a) (drop a s) (omega arith)))
+
+-- ---- The bytes from a place on: one piece, then what is behind it
+
+module _ (s : List ℕ) (at k n : ℕ) (a c : List ℕ) where
+  pub pieces-join : take k (drop at s) ≡ a → take n (drop (at + k) s) ≡ c → take (k + n) (drop at s) ≡ a ++ c
+  pieces-join e f = take-add k n (drop at s) ∙ rw (e, drop-drop k at s, f)
+
+  pub pieces-split : length a ≡ k → take (k + n) (drop at s) ≡ a ++ c → (take k (drop at s) ≡ a) × (take n (drop (at + k) s) ≡ c)
+  pieces-split l e =
+      let w : k + n - k ≡ n = omega arith in (
+        sym (take-take k (k + n) (drop at s) (omega arith)) ∙ rw e (take-at a c k l),
+        rw (← drop-drop k at s) (sym (rw w at (drop-take k (k + n) (drop at s))) ∙ rw e (drop-at a c k l)),
+      )
+
+pub piece-pair : (s : List ℕ) (at : ℕ) → at + 2 ≤ length s → take 2 (drop at s) ≡ byte s at ∷ byte s (at + 1) ∷ []
+piece-pair s at h = rw (drop-cons s at 0 (omega arith), drop-cons s (suc at) 0 (omega arith), add-one)
+
+-- Up to one place, then up to another.
+pub take-part : (a b : ℕ) (s : List ℕ) → a ≤ b → take a s ++ part a b s ≡ take b s
+take-part a b s h = let n : a + (b - a) ≡ b = omega arith in sym (rw n at (take-add a (b - a) s))

@@ -1,11 +1,12 @@
 -- Bytes: numbers below 256, in a list and in the entries that are cut from it. Assumes nothing.
-use Prim.Native.Nat.{ℕ, zero, suc, pred, _<_}
+use Prim.Native.Nat.{ℕ, zero, suc, pred, _-_, _<_}
 use mathlib.Core.Path.{_≡_, refl}
 use mathlib.Core.Bool.{Bool, _||_}
 use mathlib.Core.List.{List, [], _∷_}
 use native.Mathlib.Omega.{arith}
-use lib.ListN.{getD, take, drop}
-use Rattle.mps.specs.Words.{byte, keep, any, each, cut}
+use lib.ListN.{getD, set, take, drop}
+use lib.Seq.{sets}
+use Rattle.mps.specs.Words.{byte, part, keep, any, each, cut}
 use Rattle.mps.specs.Layout.{Entry}
 use Rattle.mps.specs.Sections.{rows}
 use Rattle.laws.proofs.Tests.{whether, or-four}
@@ -30,6 +31,22 @@ pub bytes-drop : (n : ℕ) (s : List ℕ) → Bytes s → Bytes (drop n s)
 bytes-drop zero s b = b
 bytes-drop (suc n) [] b = b
 bytes-drop (suc n) (x ∷ s) b = bytes-drop n s (λ j. b (suc j))
+
+pub bytes-part : (m n : ℕ) (s : List ℕ) → Bytes s → Bytes (part m n s)
+bytes-part m n s b = bytes-take (n - m) (drop m s) (bytes-drop m s b)
+
+-- ---- Bytes stored into bytes are bytes
+
+pub bytes-set : (t : List ℕ) (at x : ℕ) → Bytes t → x < 256 → Bytes (set t at x)
+bytes-set [] at x b h i = b i
+bytes-set (y ∷ t) zero x b h zero = h
+bytes-set (y ∷ t) zero x b h (suc i) = b (suc i)
+bytes-set (y ∷ t) (suc at) x b h zero = b 0
+bytes-set (y ∷ t) (suc at) x b h (suc i) = bytes-set t at x (λ j. b (suc j)) h i
+
+pub bytes-sets : (t : List ℕ) (at : ℕ) (w : List ℕ) → Bytes t → Bytes w → Bytes (sets t at w)
+bytes-sets t at [] b c = b
+bytes-sets t at (x ∷ w) b c = bytes-sets (set t at x) (suc at) w (bytes-set t at x b (c 0)) (λ j. c (suc j))
 
 -- ---- Entries that are cut from bytes are small, and so are those that pass a test
 

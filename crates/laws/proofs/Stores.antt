@@ -1,11 +1,13 @@
 -- Laws of `sets`: bytes stored one behind the other from a place on (lib.Seq). Assumes nothing.
-use Prim.Native.Nat.{ℕ, suc, _+_, _≤_}
-use mathlib.Core.Path.{_≡_, refl, _∙_}
+use Prim.Native.Nat.{ℕ, suc, _+_, _-_, _<_, _≤_}
+use mathlib.Core.Path.{_≡_, refl, ap, sym, _∙_}
 use mathlib.Core.List.{List, [], _∷_, _++_, append-assoc}
 use native.Mathlib.Omega.{arith}
 use native.Mathlib.Nat.{zero-add, add-zero, add-suc, suc-add}
-use lib.ListN.{length, set, take, drop}
-use lib.Seq.{sets, sets-eq, set-out, take-set-le, drop-set-lt}
+use lib.ListN.{length, set, take, drop, take-append-drop}
+use lib.Seq.{sets, sets-eq, set-out, take-set-le, drop-set-lt, getD-take, take-set-lt, drop-set-add, drop-drop, set-set, set-comm}
+use Rattle.mps.specs.Words.{byte, part}
+use Rattle.laws.proofs.Parts.{drop-take}
 
 -- Past the end nothing is stored.
 pub sets-past : (t : List ℕ) (at : ℕ) (w : List ℕ) → length t ≤ at → sets t at w ≡ t
@@ -36,3 +38,51 @@ pub sets-append :
     (t : List ℕ) (at : ℕ) (v w : List ℕ) → sets t at (v ++ w) ≡ sets (sets t at v) (at + length v) w
 sets-append t at [] w = rw add-zero
 sets-append t at (x ∷ xs) w = sets-append (set t at x) (suc at) xs w ∙ rw (add-suc, suc-add)
+
+-- ---- What stands before the stores is read as before
+
+module _ (t : List ℕ) (at : ℕ) (w : List ℕ) where
+  pub sets-byte : (i : ℕ) → i < at → byte (sets t at w) i ≡ byte t i
+  sets-byte i h = rw (← getD-take at (sets t at w) i 0 h, sets-take t at w at (omega arith)) (getD-take at t i 0 h)
+
+  pub sets-part : (m n : ℕ) → n ≤ at → part m n (sets t at w) ≡ part m n t
+  sets-part m n h = rw (← drop-take m n (sets t at w), sets-take t at w n h) (drop-take m n t)
+
+-- ---- Stores into a part of a list
+
+pub drop-sets : (n : ℕ) (t : List ℕ) (at : ℕ) (w : List ℕ) → drop n (sets t (n + at) w) ≡ sets (drop n t) at w
+drop-sets n t at [] = refl
+drop-sets n t at (x ∷ w) =
+    rw (← add-suc n at, drop-sets n (set t (n + at) x) (suc at) w, drop-set-add n t at x)
+
+pub take-sets : (n : ℕ) (t : List ℕ) (at : ℕ) (w : List ℕ) → at + length w ≤ n → take n (sets t at w) ≡ sets (take n t) at w
+take-sets n t at [] h = refl
+take-sets n t at (x ∷ w) h = rw (take-sets n (set t at x) (suc at) w (omega arith), take-set-lt n t at x (omega arith))
+
+-- A part of a list, where the stores lie in it.
+pub part-sets : (m n : ℕ) (t : List ℕ) (at : ℕ) (w : List ℕ) → m + at + length w ≤ n → part m n (sets t (m + at) w) ≡ sets (part m n t) at w
+part-sets m n t at w h = rw (drop-sets m t at w) (take-sets (n - m) (drop m t) at w (omega arith))
+
+-- ---- Stores one after the other
+
+-- A byte before the stores may as well be stored before them.
+pub sets-set : (t : List ℕ) (i x at : ℕ) (w : List ℕ) → i < at → set (sets t at w) i x ≡ sets (set t i x) at w
+sets-set t i x at [] h = refl
+sets-set t i x at (y ∷ w) h =
+    rw (sets-set (set t at y) i x (suc at) w (omega arith), set-comm t at i y x (λ e. omega arith))
+
+-- Of stores in the same places the last ones count.
+pub sets-sets : (t : List ℕ) (at : ℕ) (v w : List ℕ) → length v ≡ length w → sets (sets t at v) at w ≡ sets t at w
+sets-sets t at [] [] e = refl
+sets-sets t at [] (y ∷ w) e = absurd (omega arith)
+sets-sets t at (x ∷ v) [] e = absurd (omega arith)
+sets-sets t at (x ∷ v) (y ∷ w) e =
+    rw (sets-set (set t at x) at y (suc at) v (omega arith), set-set t at x y)
+    (sets-sets (set t at y) (suc at) v w (omega arith))
+
+-- Bytes that stand there already.
+pub sets-standing : (t : List ℕ) (at : ℕ) (v : List ℕ) → at + length v ≤ length t → take (length v) (drop at t) ≡ v → sets t at v ≡ t
+sets-standing t at v h e =
+    let f : v ++ drop (at + length v) t ≡ drop at t =
+    rw (← drop-drop (length v) at t) (ap (λ (l : List ℕ). l ++ drop (length v) (drop at t)) (sym e) ∙ take-append-drop (length v) (drop at t)) in
+    sets-fit t at v h ∙ ap (λ (l : List ℕ). take at t ++ l) f ∙ take-append-drop at t

@@ -15,6 +15,8 @@ use Rattle.mps.specs.declared.Held.{Held}
 use Rattle.mps.specs.declared.Held.the-variants.{Default, Table, Refused as Held·Refused}
 use Rattle.mps.specs.declared.Written.{Written}
 use Rattle.mps.specs.declared.Written.the-variants.{Bytes, Refused as Written·Refused}
+use Rattle.mps.specs.declared.Parted.{Parted}
+use Rattle.mps.specs.declared.Parted.the-variants.{Parts, Refused as Parted·Refused}
 use Rattle.mps.specs.declared.Routed.{Routed}
 use Rattle.mps.specs.declared.Routed.the-variants.{Pairs, Refused as Routed·Refused}
 use Rattle.mps.specs.declared.Seen.{Seen}
@@ -45,6 +47,10 @@ heldNumbers (Held·Refused n) = n ∷ []
 abbrev pub writtenNumbers : Written → List ℕ
 writtenNumbers (Bytes count) = 0 ∷ count ∷ []
 writtenNumbers (Written·Refused n) = n ∷ []
+
+abbrev pub partedNumbers : Parted → List ℕ
+partedNumbers (Parts base end) = 0 ∷ base ∷ end ∷ []
+partedNumbers (Parted·Refused n) = n ∷ []
 
 abbrev pub routedNumbers : Routed → List ℕ
 routedNumbers (Pairs count) = 0 ∷ count ∷ []
@@ -85,6 +91,10 @@ heldOf (suc n) held = Held·Refused (suc n)
 abbrev pub writtenOf : ℕ → ℕ → Written
 writtenOf zero count = Bytes count
 writtenOf (suc n) count = Written·Refused (suc n)
+
+abbrev pub partedOf : ℕ → Parted → Parted
+partedOf zero parts = parts
+partedOf (suc n) parts = Parted·Refused (suc n)
 
 abbrev pub routedOf : ℕ → ℕ → Routed
 routedOf zero count = Pairs count

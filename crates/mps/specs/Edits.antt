@@ -23,9 +23,13 @@ pub record Edit : Type 0 where
 unfoldable pub standing : List ℕ → ℕ → Entry
 standing t place = getD (baseEntries t) place []
 
+-- How many bytes the entries before a place have.
+unfoldable pub before : ℕ → List Entry → ℕ
+before place es = total (each length (take place es))
+
 -- Where it stands: behind the header and the entries before it.
 unfoldable pub offsetOf : List ℕ → ℕ → ℕ
-offsetOf t place = headerSize + total (each length (take place (baseEntries t)))
+offsetOf t place = headerSize + before place (baseEntries t)
 
 -- A table with the byte at 7 that brings its base to 0.
 unfoldable pub sealed : List ℕ → List ℕ

@@ -8,34 +8,34 @@ use Rattle.mps.specs.Words.{text, cut, exactly, put, first}
 use Rattle.mps.specs.Refusals.{_when_, refusal, baseNumber, extendedNumber, roomNumber}
 use Rattle.mps.specs.Sums.{sum256, toStore}
 use Rattle.mps.specs.Numbers.{bytes}
-use Rattle.mps.specs.Layout.{specRevision, partMost, headerSize, baseEntryLength, basePart, extendedPart}
+use Rattle.mps.specs.Layout.{specRevision, partMost, headerSize, baseEntryLength, baseLength, extendedEnd, basePart, extendedPart}
 use Rattle.mps.specs.Layout.{oemId, productOf, oemPointer, oemSize, localApic, reserved43}
 use Rattle.mps.specs.Judge.{tableRefusal}
-use Rattle.mps.specs.Answers.{writtenOf}
+use Rattle.mps.specs.Answers.{writtenOf, partedOf}
+use Rattle.mps.specs.declared.Fields.{Fields}
+use Rattle.mps.specs.declared.Parted.{Parted}
+use Rattle.mps.specs.declared.Parted.the-variants.{Parts as Parted·Parts}
 use Rattle.mps.specs.declared.Written.{Written}
 
--- "header fields (OEM ID, product, OEM pointer and size, local APIC address, byte 43)": eight bytes, twelve bytes, numbers.
-pub record Fields : Type 0 where
-  pub oem : List ℕ
-  pub product : List ℕ
-  pub pointer : ℕ
-  pub size : ℕ
-  pub apic : ℕ
-  pub reserved : ℕ
-
--- "header fields .., base entries and extended entries, both as bytes"
+-- "header fields (OEM ID, product, OEM pointer and size, local APIC address, byte 43), base entries and extended entries,
+-- both as bytes". `Fields` is the struct of src/lib.rt: eight bytes, twelve bytes, numbers.
 pub record Parts : Type 0 where
   pub fields : Fields
   pub base : List ℕ
   pub extended : List ℕ
 
--- The parts of a table.
+-- ---- The parts of a table
+
 unfoldable pub fieldsOf : List ℕ → Fields
 fieldsOf t =
     record { oem = oemId t; product = productOf t; pointer = oemPointer t; size = oemSize t; apic = localApic t; reserved = reserved43 t }
 
 unfoldable pub partsOf : List ℕ → Parts
 partsOf t = record { fields = fieldsOf t; base = basePart t; extended = extendedPart t }
+
+-- What is answered of a table's parts: where its entries end, or the number that it is refused with.
+unfoldable pub parted : List ℕ → Parted
+parted t = partedOf (tableRefusal t) (Parted·Parts (baseLength t) (extendedEnd t))
 
 -- ---- The image: "It works out lengths, count and checksums"; "the revision it writes is 4"
 

@@ -63,6 +63,16 @@ pub const BASE_LENGTH: usize = 4;
 
 pub const REVISION: usize = 6;
 
+pub const CHECKSUM: usize = 7;
+
+pub const OEM_ID: usize = 8;
+
+pub const PRODUCT: usize = 16;
+
+pub const OEM_POINTER: usize = 28;
+
+pub const OEM_SIZE: usize = 32;
+
 pub const ENTRY_COUNT: usize = 34;
 
 pub const LOCAL_APIC: usize = 36;
@@ -70,6 +80,8 @@ pub const LOCAL_APIC: usize = 36;
 pub const EXTENDED_LENGTH: usize = 40;
 
 pub const EXTENDED_CHECKSUM: usize = 42;
+
+pub const RESERVED_43: usize = 43;
 
 pub const SPEC_REVISION: u8 = 4;
 

@@ -66,6 +66,25 @@ pub enum Written {
     Refused(u8),
 }
 
+// The header fields that the writer takes and that a table has, MPS Table 4-2: OEM ID, product, OEM pointer and size, local
+// APIC address, byte 43.
+pub struct Fields {
+    pub oem: [u8; 8],
+    pub product: [u8; 12],
+    pub pointer: u32,
+    pub size: u16,
+    pub apic: u32,
+    pub reserved: u8,
+}
+
+// The parts of a table, or the number that it is refused with. The base entries are the table's bytes from the header's
+// end to `base`, the extended entries those from there to `end`. Its header fields are read by a call of their own: a
+// function that answers an enum with an array in it is not proved by the toolchain today.
+pub enum Parted {
+    Parts { base: usize, end: usize },
+    Refused(u8),
+}
+
 // What a route query found: so many pairs of two bytes in the lent room.
 pub enum Routed {
     Pairs(usize),

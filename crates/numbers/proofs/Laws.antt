@@ -9,6 +9,8 @@ use lib.Arith.{mod-mul}
 use lib.ListN.{length, getD, take, drop, set, List·getD-eq-default}
 use lib.Seq.{drop-append-seam, drop-cons, getD-drop, getD-take, length-take-le, sets, sets-eq}
 use Rattle.mps.specs.Numbers.{le, bytes}
+use Rattle.laws.proofs.Stores.{sets-take}
+use Rattle.laws.proofs.Parts.{alike}
 
 -- ---- le
 
@@ -47,6 +49,14 @@ pub le-take : (k n : ℕ) (s : List ℕ) (at : ℕ) → at + k ≤ n → le k (t
 unfolding le
 le-take zero n s at h = refl
 le-take (suc k) n s at h = rw (getD-take n s at 0 (omega arith), le-take k n s (at + 1) (omega arith))
+
+-- In lists with the same first n bytes.
+pub alike-le : (n : ℕ) (t u : List ℕ) → take n u ≡ take n t → (k at : ℕ) → at + k ≤ n → le k u at ≡ le k t at
+alike-le n t u same k at h = alike n t u same (λ (s : List ℕ). le k s at) (λ s. le-take k n s at h)
+
+-- Before bytes that are stored.
+pub le-before : (t : List ℕ) (at : ℕ) (w : List ℕ) (k i : ℕ) → i + k ≤ at → le k (sets t at w) i ≡ le k t i
+le-before t at w k i h = rw (← le-take k at (sets t at w) i h, sets-take t at w at (omega arith)) (le-take k at t i h)
 
 -- In the n bytes from a place on.
 pub le-row : (k n : ℕ) (s : List ℕ) (a at : ℕ) → at + k ≤ n → le k (take n (drop a s)) at ≡ le k s (a + at)
@@ -106,6 +116,10 @@ le-bytes-append (suc k) n s =
 
 pub le-bytes : (k n : ℕ) → le k (bytes k n) 0 ≡ n % 256 ^ k
 le-bytes k n = rw append-nil at (le-bytes-append k n [])
+
+-- The number of bytes that stand at a place.
+pub piece-number : (s : List ℕ) (at k n : ℕ) → take k (drop at s) ≡ bytes k n → le k s at ≡ n % 256 ^ k
+piece-number s at k n e = sym (rw add-zero at (le-row k k s at 0 (omega arith))) ∙ rw e (le-bytes k n)
 
 pub bytes-le : (k : ℕ) (s : List ℕ) (at : ℕ) → at + k ≤ length s → ((i : ℕ) → getD s i 0 < 256) → bytes k (le k s at) ≡ take k (drop at s)
 unfolding le bytes

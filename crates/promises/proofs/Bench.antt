@@ -1,18 +1,18 @@
 -- The other calls on the bench board, computed: what the twelve rows and the listing do not touch. Assumes nothing.
 use mathlib.Core.Path.{_≡_, refl}
 use mathlib.Core.List.{[], _∷_, _++_}
-use lib.ListN.{replicate}
+use lib.ListN.{set, replicate}
 use Rattle.mps.specs.Words.{text, each}
 use Rattle.mps.specs.Judge.{judged, examined}
 use Rattle.mps.specs.Listing.{listed, listLeft, programOutput}
 use Rattle.mps.specs.Rules.{localSide}
 use Rattle.mps.specs.Routes.{routed, routesLeft}
 use Rattle.mps.specs.Addresses.{seen}
-use Rattle.mps.specs.Writing.{partsOf, image, written, writeLeft}
-use Rattle.mps.specs.Edits.{runAnswers}
+use Rattle.mps.specs.Writing.{Parts, fieldsOf, partsOf, parted, image, written, writeLeft}
+use Rattle.mps.specs.Edits.{Edit, edited, editLeft, runAnswers}
 use Rattle.mps.specs.Reader.{found, nextPlace}
-use Rattle.mps.specs.Answers.{judgedNumbers, examinedNumbers, routedNumbers, seenNumbers, writtenNumbers, editedNumbers, foundNumbers}
-use Rattle.promises.specs.Board.{table, dump}
+use Rattle.mps.specs.Answers.{judgedNumbers, examinedNumbers, routedNumbers, seenNumbers, writtenNumbers, partedNumbers, editedNumbers, foundNumbers}
+use Rattle.promises.specs.Board.{table, dump, interrupt}
 use Rattle.promises.specs.Cases.{toInput9, dumpWithChecksum}
 use Rattle.promises.specs.Printed.{printed}
 use Rattle.promises.proofs.Computed.{computed}
@@ -62,6 +62,30 @@ pub board-count : writtenNumbers (written (partsOf table) (replicate 98 0xee)) �
 unfolding computed
 board-count = refl
 
+-- Without its entries the image is 44 bytes and refused with 14: they are left 0, and what lies past them stays. A room too
+-- small stays whole.
+abbrev bare : Parts
+bare = record { fields = fieldsOf table; base = []; extended = [] }
+
+pub board-refused : writtenNumbers (written bare (replicate 46 0xee)) ++ writeLeft bare (replicate 46 0xee) ≡ 14 ∷ (replicate 44 0 ++ (0xee ∷ 0xee ∷ []))
+unfolding computed
+board-refused = refl
+
+pub board-no-room : writtenNumbers (written bare (replicate 43 0xee)) ++ writeLeft bare (replicate 43 0xee) ≡ 19 ∷ replicate 43 0xee
+unfolding computed
+board-no-room = refl
+
+-- Its parts: twenty spaces, no OEM table, the local APICs at FEE00000h; the base entries end at 96, and there are no others.
+pub board-fields :
+    fieldsOf table
+    ≡ record { oem = replicate 8 0x20; product = replicate 12 0x20; pointer = 0; size = 0; apic = 0xfee00000; reserved = 0 }
+unfolding computed
+board-fields = refl
+
+pub board-parted : partedNumbers (parted table) ≡ 0 ∷ 96 ∷ 96 ∷ []
+unfolding computed
+board-parted = refl
+
 -- The reader finds an entry of 20 bytes at 44 and none inside the header, walks the five entries, and stays at the end.
 pub board-found : each foundNumbers (each (found table) (43 ∷ 44 ∷ [])) ≡ (0 ∷ 0 ∷ []) ∷ (0 ∷ 20 ∷ []) ∷ []
 unfolding computed
@@ -87,3 +111,12 @@ board-undeclared = refl
 pub board-run : each editedNumbers (runAnswers table (toInput9 3 ∷ toInput9 3 ∷ [])) ≡ (0 ∷ []) ∷ (22 ∷ []) ∷ []
 unfolding computed
 board-run = refl
+
+-- "An edit that judges, fails and keeps the new checksum": the interrupt of a bus that is not listed is refused with 23 and
+-- 17, and no byte is changed.
+abbrev toBus7 : Edit
+toBus7 = record { place = 3; stated = interrupt; wanted = set interrupt 4 7 }
+
+pub board-inner : editedNumbers (edited table toBus7) ++ editLeft table toBus7 ≡ 23 ∷ 17 ∷ table
+unfolding computed
+board-inner = refl

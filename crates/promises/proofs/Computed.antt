@@ -17,8 +17,8 @@ use Rattle.mps.specs.Judge.{tableRules, tableRefusal, pointerRules, dumpRules, 
 use Rattle.mps.specs.Routes.{matches, names, pair, pairsTo, routes, routesOf, routeRules, routeRefusal, routed, routesLeft}
 use Rattle.mps.specs.Addresses.{covers, touches, takesAway, adds, coversOrAdds, hasEntry, subtractive, says, climb, seenBy, addressRules, seen}
 use Rattle.mps.specs.Listing.{digits, decimalDigit, hexDigit, decimalWidth, decimal, hex, line, unpadded, onOff, bootAp, interruptName, cpuLine, busLine, ioApicLine, interruptLine, baseLine, mapLine, treeLine, modLine, skipLine, extendedLine, defaultLine, pointerLine, tableLine, endLine, tableLines, listing, refusedLine, programOutput, listRefusal, listed, listLeft, printRefusal, printed, printLeft}
-use Rattle.mps.specs.Writing.{fieldsOf, partsOf, header, extendedSumOf, baseSumOf, image, earlyRefusal, writeRefusal, written, writeLeft}
-use Rattle.mps.specs.Edits.{standing, offsetOf, sealed, editedTable, noPlace, otherShape, changed, innerRefusal, editRules, editRefusal, edited, editLeft, run, runAnswers}
+use Rattle.mps.specs.Writing.{fieldsOf, partsOf, parted, header, extendedSumOf, baseSumOf, image, earlyRefusal, writeRefusal, written, writeLeft}
+use Rattle.mps.specs.Edits.{standing, before, offsetOf, sealed, editedTable, noPlace, otherShape, changed, innerRefusal, editRules, editRefusal, edited, editLeft, run, runAnswers}
 use Rattle.mps.specs.Reader.{baseStep, extendedStep, entrySize, entryAt, nextPlace, found}
 
 ofWords : ℕ
@@ -86,11 +86,11 @@ unfolding digits decimalDigit hexDigit decimalWidth decimal hex line unpadded on
 ofListing = 0
 
 ofWriting : ℕ
-unfolding fieldsOf partsOf header extendedSumOf baseSumOf image earlyRefusal writeRefusal written writeLeft
+unfolding fieldsOf partsOf parted header extendedSumOf baseSumOf image earlyRefusal writeRefusal written writeLeft
 ofWriting = 0
 
 ofEdits : ℕ
-unfolding standing offsetOf sealed editedTable noPlace otherShape changed innerRefusal editRules editRefusal edited editLeft run runAnswers
+unfolding standing before offsetOf sealed editedTable noPlace otherShape changed innerRefusal editRules editRefusal edited editLeft run runAnswers
 ofEdits = 0
 
 ofReader : ℕ

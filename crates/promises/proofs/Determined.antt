@@ -13,6 +13,9 @@ use Rattle.numbers.proofs.put64.Reads as put64
 use Rattle.sets.proofs.empty.Reads as empty
 use Rattle.sets.proofs.put.Reads as put
 use Rattle.sets.proofs.contains.Reads as contains
+use Rattle.entries.proofs.size.Reads as entry-size
+use Rattle.entries.proofs.count.Reads as entry-count
+use Rattle.entries.proofs.offset.Reads as entry-offset
 use Rattle.slices.proofs.same.Reads as same
 use Rattle.slices.proofs.copy.Reads as copy
 use Rattle.slices.proofs.clear.Reads as clear
@@ -56,8 +59,14 @@ use Rattle.lines.proofs.frame.default.Reads as default-line
 use Rattle.lines.proofs.frame.refused.Reads as refused-line
 use Rattle.listing.proofs.list.Reads as list-dump
 use Rattle.listing.proofs.print.Reads as print
+use Rattle.writer.proofs.write.Reads as write
+use Rattle.writer.proofs.parts.Reads as parts
+use Rattle.writer.proofs.fields.Reads as fields
+use Rattle.editor.proofs.edit.Reads as edit
 use Rattle.exports.proofs.ruxtajma_judge.Reads as ruxtajma-judge
 use Rattle.exports.proofs.ruxtajma_list.Reads as ruxtajma-list
+use Rattle.exports.proofs.ruxtajma_write.Reads as ruxtajma-write
+use Rattle.exports.proofs.ruxtajma_edit.Reads as ruxtajma-edit
 
 -- A contract whose parameters are only read: at any arguments it allows one result.
 abbrev pub Answers : {K : Type 0} {A R S : K → Type 0} → ((κ : K) → A κ → R κ → S κ → Type 0) → Type 0
@@ -108,6 +117,17 @@ put-determined κ a x y s t p q = p ∙ sym q
 
 pub contains-determined : Answers contains.Post
 contains-determined κ a x y s t p q = p ∙ sym q
+
+-- ---- entries
+
+pub entry-size-determined : Answers entry-size.Post
+entry-size-determined κ a x y s t p q = p ∙ sym q
+
+pub entry-count-determined : Answers entry-count.Post
+entry-count-determined κ a x y s t p q = p ∙ sym q
+
+pub entry-offset-determined : Answers entry-offset.Post
+entry-offset-determined κ a x y s t p q = p ∙ sym q
 
 -- ---- slices
 
@@ -272,6 +292,22 @@ list-dump-determined κ a x y s t p q = (p .0 ∙ sym (q .0), p .1 ∙ sym (q .1
 pub print-determined : Determines print.Post (λ κ s. now (s .1 .0))
 print-determined κ a x y s t p q = (p .0 ∙ sym (q .0), p .1 ∙ sym (q .1))
 
+-- ---- writer
+
+pub write-determined : Determines write.Post (λ κ s. now (s .1 .1 .1 .0))
+write-determined κ a x y s t p q = (p .0 ∙ sym (q .0), p .1 ∙ sym (q .1))
+
+pub parts-determined : Answers parts.Post
+parts-determined κ a x y s t p q = p ∙ sym q
+
+pub fields-determined : Answers fields.Post
+fields-determined κ a x y s t p q = p ∙ sym q
+
+-- ---- editor
+
+pub edit-determined : Determines edit.Post (λ κ s. now (s .0))
+edit-determined κ a x y s t p q = (p .0 ∙ sym (q .0), p .1 ∙ sym (q .1))
+
 -- ---- exports
 
 pub ruxtajma-judge-determined : Answers ruxtajma-judge.Post
@@ -279,3 +315,9 @@ ruxtajma-judge-determined κ a x y s t p q = p ∙ sym q
 
 pub ruxtajma-list-determined : Determines ruxtajma-list.Post (λ κ s. now (s .1 .0))
 ruxtajma-list-determined κ a x y s t p q = (p .0 ∙ sym (q .0), p .1 ∙ sym (q .1))
+
+pub ruxtajma-write-determined : Determines ruxtajma-write.Post (λ κ s. now (s .1 .1 .1 .1 .1 .1 .1 .1 .0))
+ruxtajma-write-determined κ a x y s t p q = (p .0 ∙ sym (q .0), p .1 ∙ sym (q .1))
+
+pub ruxtajma-edit-determined : Determines ruxtajma-edit.Post (λ κ s. now (s .0))
+ruxtajma-edit-determined κ a x y s t p q = (p .0 ∙ sym (q .0), p .1 ∙ sym (q .1))

@@ -5,5 +5,10 @@ pub mod Bench
 pub mod Given
 pub mod Judge
 pub mod Climb
-pub mod Image
+pub mod Headers
+pub mod Again
+pub mod Edits
+pub mod Fresh
+pub mod Runs
+pub mod Back
 pub mod Determined

@@ -1,10 +1,11 @@
 -- Laws of `same`, and of `sets` for a loop. Assumes nothing.
-use Prim.Native.Nat.{ℕ, suc, _+_, _≤_, _<_}
+use Prim.Native.Nat.{ℕ, suc, _+_, _-_, _≤_, _<_}
 use mathlib.Core.Path.{_≡_, refl, ap, sym, _∙_}
 use mathlib.Core.Bool.{true, false, and-false, true≢false}
 use mathlib.Core.List.{List, [], _∷_}
 use native.Mathlib.Numerals.{add-one}
-use lib.ListN.{length, getD, set, drop, drop-of-length-le}
+use native.Mathlib.Omega.{arith}
+use lib.ListN.{length, getD, set, drop, replicate, drop-of-length-le}
 use lib.Seq.{drop-cons, sets}
 use lib.Dec.{eqb}
 use borrow.Author.Tests.{eq-eqb, ne-eqb, eqb-true}
@@ -72,3 +73,12 @@ module _ (t w : List ℕ) (at i : ℕ) where
   pub sets-next :
       i < length w → sets t at (drop i w) ≡ sets (set t at (getD w i 0)) (at + 1) (drop (i + 1) w)
   sets-next h = rw (add-one i, add-one at, drop-cons w i 0 h)
+
+-- ---- The same byte stored n times, at place k of the loop
+
+module _ (t : List ℕ) (n k x : ℕ) where
+  pub fill-done : n ≤ k → sets t k (replicate (n - k) x) ≡ t
+  fill-done h = let e : n - k ≡ 0 = omega arith in rw e
+
+  pub fill-next : k < n → sets t k (replicate (n - k) x) ≡ sets (set t k x) (k + 1) (replicate (n - (k + 1)) x)
+  fill-next h = let e : n - k ≡ suc (n - (k + 1)) = omega arith in rw (e, add-one k)

@@ -4,7 +4,7 @@
 // `sets` and `replicate` of Rattle's lists. None has a `requires`. The laws that callers cite stand in
 // proofs/Laws.antt.
 ghost use mathlib.Core.Path.{_≡_};
-ghost use lib.ListN.{length, replicate};
+ghost use lib.ListN.{replicate};
 ghost use lib.Seq.{sets};
 ghost use Rattle.mps.specs.Words.{same as sameBytes};
 
@@ -43,13 +43,16 @@ pub fn copy(out: &mut [u8], at: usize, s: &[u8])
     }
 }
 
-// Makes every byte 0.
-pub fn clear(out: &mut [u8])
-    ensures { λ _. ⌜ now (out .exit) ≡ replicate (length (now (out .entry))) 0 ⌝ }
+// Makes the first n bytes 0, all of them where there are fewer.
+pub fn clear(out: &mut [u8], n: usize)
+    ensures { λ _. ⌜ now (out .exit) ≡ sets (now (out .entry)) 0 (replicate n 0) ⌝ }
 {
-    let mut i = 0;
-    while i < out.len() {
-        out[i] = 0;
-        i += 1;
+    let mut k = 0;
+    while k < n {
+        if out.len() <= k {
+            return;
+        }
+        out[k] = 0;
+        k += 1;
     }
 }

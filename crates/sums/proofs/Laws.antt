@@ -59,3 +59,8 @@ stored-sum s i x h e = omega (arith, total-set s i 0 h, total-set s i ((256 - x 
 pub stored-append : (s : List ℕ) (x : ℕ) → sum256 s ≡ x → sum256 (toStore x ∷ s) ≡ 0
 unfolding sum256 total toStore
 stored-append s x e = omega arith
+
+-- The byte to store is the one with which the bytes sum to 0.
+pub stored-is : (s : List ℕ) (x : ℕ) → x < 256 → sum256 (x ∷ s) ≡ 0 → toStore (sum256 s) ≡ x
+unfolding sum256 total toStore
+stored-is s x h e = omega arith

@@ -6,7 +6,7 @@ use mathlib.Core.Path.{_≡_}
 use lib.ListN.{length}
 use Rattle.mps.specs.Words.{part}
 use Rattle.laws.proofs.Parts.{length-part}
-use Rattle.judge.proofs.Laws.{accepted-inside}
+use Rattle.accepted.proofs.Sound.{sound}
 use Rattle.listing.proofs.Most.{pointer-most, table-most, end-most}
 use Rattle.listing.proofs.Laws.{table-is}
 use Rattle.listing.proofs.put_table.Statement.{statement}
@@ -19,8 +19,8 @@ within :
     let t = c .before .before .before .before .before .args .t .now in
     (44 ≤ base) × (base ≤ length t) × (base + c .before .le162 .result ≤ length t)
 within c =
-    let i = accepted-inside (c .before .before .before .before .before .args .t .now) (c .before .before .before .before .before .pre) in
-    rw (c .before .before .le16 .ensures, c .before .le162 .ensures) (i .low, i .base, i .extended)
+    let i = sound (c .before .before .before .before .before .args .t .now) (c .before .before .before .before .before .pre) in
+    rw (c .before .before .le16 .ensures, c .before .le162 .ensures) (i .low, i .inside, i .extended-inside)
 
 sizes :
     (c : tie.After-le163)

@@ -1,48 +1,55 @@
--- `slices::clear` meets its contract. The loop's invariant: i zeros, and then what was there.
+-- `slices::clear` meets its contract. The loop's invariant: the zeros that are left, stored from k on, make the whole.
 use Prim.Native.Nat.{_-_, _≤_}
-use mathlib.Core.Path.{_≡_, refl, _∙_}
-use mathlib.Core.List.{_++_, append-nil}
+use mathlib.Core.Path.{_≡_, refl, sym, _∙_}
 use native.Mathlib.Omega.{arith}
-use lib.ListN.{length, drop, replicate, length-set}
-use lib.Seq.{drop-length}
-use borrow.Author.Fill.{fill-none, fill-more}
+use lib.ListN.{length, replicate, length-set}
+use lib.Seq.{sets}
 use borrow.Author.Needs.{needs}
+use Rattle.laws.proofs.Stores.{sets-past}
+use Rattle.slices.proofs.Laws.{fill-done, fill-next}
 use Rattle.slices.proofs.clear.Statement.{statement}
 use Rattle.slices.proofs.clear.Tie as tie
 
 abbrev Inv-loop : tie.InvT-loop
-Inv-loop out₀ i₀ out i =
-    (out ≡ replicate i 0 ++ drop i out₀) × (i ≤ length out₀) × (length out ≡ length out₀)
+Inv-loop out₀ n k₀ out k = (sets out k (replicate (n - k) 0) ≡ sets out₀ 0 (replicate n 0)) × (k ≤ n) × (length out ≡ length out₀)
 
 abbrev μ-loop : tie.MeasureT-loop
-μ-loop out₀ i₀ out i = length out₀ - i
+μ-loop out₀ n k₀ out k = n - k
 
 loop-holds : tie.Need-loop-holds Inv-loop μ-loop
-loop-holds c = (fill-none _ 0, omega arith, refl)
+loop-holds c = let n = c .args .n in let e : n - 0 ≡ n = omega arith in (rw e, omega arith, refl)
+
+same-length : tie.Need-same-length Inv-loop μ-loop
+same-length c = c .before .before .loop .inv .2
+
+returns : tie.Need-returns Inv-loop μ-loop
+returns c =
+    let l = c .before .before .loop in
+    let n = c .before .before .before .args .n in
+    sym (sets-past (l .out) (l .k) (replicate (n - l .k) 0) (omega arith)) ∙ l .inv .0
 
 slice-write-out : tie.Need-slice-write-out Inv-loop μ-loop
 slice-write-out c = search needs
 
-add-i : tie.Need-add-i Inv-loop μ-loop
-add-i c = search needs
+add-k : tie.Need-add-k Inv-loop μ-loop
+add-k c = search needs
 
 loop-less : tie.Need-loop-less Inv-loop μ-loop
 loop-less c = search needs
 
 loop-again : tie.Need-loop-again Inv-loop μ-loop
 loop-again c =
-    let l = c .before .loop in
-    let more = fill-more (l .i) 0 (c .before .before .args .out .now) (omega arith) in
-    (rw (l .inv .0) more, omega arith, simp length-set (l .inv .2))
+    let l = c .before .before .loop in
+    let n = c .before .before .before .args .n in
+    (sym (fill-next (l .out) n (l .k) 0 (omega arith)) ∙ l .inv .0, omega arith, simp length-set (l .inv .2))
 
-same-length : tie.Need-same-length Inv-loop μ-loop
-same-length c = c .before .loop .inv .2
+same-length-2 : tie.Need-same-length-2 Inv-loop μ-loop
+same-length-2 c = c .before .loop .inv .2
 
-returns : tie.Need-returns Inv-loop μ-loop
-returns c =
+returns-2 : tie.Need-returns-2 Inv-loop μ-loop
+returns-2 c =
     let l = c .before .loop in
-    let e : l .i ≡ length (c .before .before .args .out .now) = omega arith in
-    l .inv .0 ∙ rw (e, drop-length, append-nil)
+    sym (fill-done (l .out) (c .before .before .args .n) (l .k) 0 (omega arith)) ∙ l .inv .0
 
 pub clear-spec : {M : Type 1} → statement M
 clear-spec =
@@ -51,9 +58,11 @@ clear-spec =
     Inv-loop
     μ-loop
     loop-holds
+    same-length
+    returns
     slice-write-out
-    add-i
+    add-k
     loop-less
     loop-again
-    same-length
-    returns)
+    same-length-2
+    returns-2)

@@ -1,0 +1,3 @@
+pub mod Exchanges
+pub mod Tests
+pub mod Laws

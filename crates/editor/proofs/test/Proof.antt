@@ -1,0 +1,157 @@
+-- Each way out is a row; the entry is found in an accepted table.
+use Prim.Native.Nat.{_+_, _≤_, _<_}
+use mathlib.Core.Path.{sym, _∙_}
+use native.Mathlib.Omega.{arith}
+use lib.ListN.{length}
+use borrow.Author.Needs.{needs}
+use Rattle.editor.specs.Tested.{editOf}
+use Rattle.editor.proofs.Tests.{tested-table, tested-20, base-inside, Found, found, found-inside, found-end, found-21, found-22, found-at}
+use Rattle.editor.proofs.test.Statement.{statement}
+use Rattle.editor.proofs.test.Tie as tie
+
+-- The base lies in the table.
+inside :
+    (c : tie.After-le162)
+    → (44 ≤ c .le162 .result) × (c .le162 .result ≤ length (c .before .before .before .before .before .before .before .before .args .t .now))
+inside c =
+    let i = c .before .before .before in
+    base-inside (c .before .before .before .before .before .before .before .before .args .t .now) (i .before .refusal .ensures) (i .if1 .left) (c .le162 .ensures)
+
+-- The entry that is asked for has been found.
+here :
+    (c : tie.After-offset)
+    → let a = c .before .before .before .before .before .before .before .before .before .before .args in
+    Found (a .t .now) (a .place) (44 + c .offset .result)
+here c =
+    let a = c .before .before .before .before .before .before .before .before .before .before .args in
+    let i = c .before .before .before .before .before in
+    found (a .t .now) (a .place) (i .before .refusal .ensures) (i .if1 .left) (c .before .before .before .before .le16 .ensures)
+    (c .before .before .before .if2 .left) (c .before .before .le162 .ensures) (c .offset .ensures)
+
+here-inside :
+    (c : tie.After-offset)
+    → 44 + c .offset .result < length (c .before .before .before .before .before .before .before .before .before .before .args .t .now)
+here-inside c = found-inside _ _ _ (here c)
+
+here-end :
+    (c : tie.After-size)
+    → 44 + c .before .before .offset .result + c .size .result ≤ length (c .before .before .before .before .before .before .before .before .before .before .before .before .args .t .now)
+here-end c = found-end _ _ _ (here (c .before .before)) (c .size .ensures)
+
+refusal-requires : tie.Need-refusal-requires
+refusal-requires c κs = search needs
+
+returns : tie.Need-returns
+returns c =
+    let a = c .before .before .before .before .before .args in
+    tested-table (a .t .now) (editOf (a .place) (a .stated .now) (a .wanted .now)) (c .before .refusal .result)
+    (c .before .refusal .ensures) (c .if1 .taken)
+
+le16-requires : tie.Need-le16-requires
+le16-requires c κs = search needs
+
+cast-count : tie.Need-cast-count
+cast-count c = search needs
+
+returns-2 : tie.Need-returns-2
+returns-2 c =
+    let a = c .before .before .before .before .before .before .before .args in
+    let i = c .before .before in
+    tested-20 (a .t .now) (editOf (a .place) (a .stated .now) (a .wanted .now))
+    (sym (i .before .refusal .ensures) ∙ i .if1 .left) (omega (arith, c .before .le16 .ensures, c .if2 .taken))
+
+le16-requires-2 : tie.Need-le16-requires-2
+le16-requires-2 c κs = search needs
+
+cast-base : tie.Need-cast-base
+cast-base c = search needs
+
+sub-offset : tie.Need-sub-offset
+sub-offset c = inside c .0
+
+part-offset-start : tie.Need-part-offset-start
+part-offset-start c = inside c .0
+
+part-offset-end : tie.Need-part-offset-end
+part-offset-end c = inside c .1
+
+offset-requires : tie.Need-offset-requires
+offset-requires c κs = search needs
+
+add-at : tie.Need-add-at
+add-at c = let h = here-inside c in omega arith
+
+shared-slice-read-kind : tie.Need-shared-slice-read-kind
+shared-slice-read-kind c = here-inside (c .before)
+
+size-requires : tie.Need-size-requires
+size-requires c κs = search needs
+
+byte-requires : tie.Need-byte-requires
+byte-requires c κs = search needs
+
+returns-3 : tie.Need-returns-3
+returns-3 c =
+    let o = c .before .before .before .before in
+    let a = o .before .before .before .before .before .before .before .before .before .before .args in
+    found-21 (a .t .now) (a .place) _ (here o) (a .stated .now) (a .wanted .now)
+    (c .before .before .size .ensures) (c .before .byte .ensures) (c .if3 .taken)
+
+add-standing : tie.Need-add-standing
+add-standing c = let h = here-end (c .before .before) in omega arith
+
+sub-standing : tie.Need-sub-standing
+sub-standing c = search needs
+
+part-standing-start : tie.Need-part-standing-start
+part-standing-start c = search needs
+
+part-standing-end : tie.Need-part-standing-end
+part-standing-end c = here-end (c .before .before)
+
+same-requires : tie.Need-same-requires
+same-requires c κs = search needs
+
+returns-4 : tie.Need-returns-4
+returns-4 c =
+    let i = c .before .before .before in
+    let o = i .before .before .before .before in
+    let a = o .before .before .before .before .before .before .before .before .before .before .args in
+    found-at (a .t .now) (a .place) _ (here o) (a .stated .now) (a .wanted .now)
+    (i .before .before .size .ensures) (i .before .byte .ensures) (i .if3 .left) (c .before .same .ensures) (c .if4 .taken)
+
+returns-5 : tie.Need-returns-5
+returns-5 c =
+    let i = c .before .before .before in
+    let o = i .before .before .before .before in
+    let a = o .before .before .before .before .before .before .before .before .before .before .args in
+    found-22 (a .t .now) (a .place) _ (here o) (a .stated .now) (a .wanted .now)
+    (i .before .before .size .ensures) (i .before .byte .ensures) (i .if3 .left) (c .before .same .ensures) (c .if4 .left)
+
+pub test-spec : {M : Type 1} → statement M
+test-spec =
+    tie.close
+    (tie.spec
+    refusal-requires
+    returns
+    le16-requires
+    cast-count
+    returns-2
+    le16-requires-2
+    cast-base
+    sub-offset
+    part-offset-start
+    part-offset-end
+    offset-requires
+    add-at
+    shared-slice-read-kind
+    size-requires
+    byte-requires
+    returns-3
+    add-standing
+    sub-standing
+    part-standing-start
+    part-standing-end
+    same-requires
+    returns-4
+    returns-5)

@@ -1,0 +1,163 @@
+-- Demand 2: "Writing the parts of an accepted table gives its bytes again, and reading what was written gives the parts
+-- again." Assumes nothing.
+use Prim.Native.Nat.{ℕ, _^_, _<_, _≤_}
+use mathlib.Core.Path.{_≡_, ap, _∙_}
+use mathlib.Core.List.{List, append-assoc}
+use native.Mathlib.Omega.{arith}
+use native.Mathlib.Nat.{mod-eq-of-lt}
+use lib.ListN.{length, take, drop, length-append}
+use lib.Seq.{length-take-le, take-take, take-append-le}
+use lib.Dec.{ltb}
+use borrow.Author.Tests.{le-ltb, ltb-false}
+use Rattle.mps.specs.Words.{exactly, put}
+use Rattle.mps.specs.Refusals.{refusal, baseNumber, extendedNumber, roomNumber}
+use Rattle.mps.specs.Layout.{partMost, headerSize, baseLength, extendedEnd, basePart, extendedPart}
+use Rattle.mps.specs.Judge.{tableRefusal}
+use Rattle.mps.specs.Writing.{Parts, partsOf, fieldsOf, parted, image, imageSize, baseSize, earlyRefusal, writeRefusal, written, writeLeft}
+use Rattle.mps.specs.declared.Written.the-variants.{Bytes as Written·Bytes}
+use Rattle.mps.specs.declared.Parted.the-variants.{Parts as Parted·Parts}
+use Rattle.laws.proofs.Lists.{exactly-all}
+use Rattle.laws.proofs.Refusals.{first-none, refusal-pass}
+use Rattle.laws.proofs.Parts.{length-part, take-part}
+use Rattle.laws.proofs.Small.{Bytes}
+use Rattle.numbers.proofs.Laws.{le-below}
+use Rattle.accepted.proofs.Sound.{Sound, sound}
+use Rattle.accepted.proofs.Agree.{agree-refusal, agree-parts}
+use Rattle.writer.proofs.Reading.{fields-inside}
+use Rattle.promises.proofs.Headers.{image-reads, image-base, image-extended, base-again, extended-again, header-again, base-sum-again, extended-sum-again}
+
+-- Parts of the widths that their types have: what a call of the writer is given is always so.
+pub record Proper (p : Parts) : Type 0 where
+  pub oem : length (p .fields .oem) ≡ 8
+  pub product : length (p .fields .product) ≡ 12
+  pub pointer : p .fields .pointer < 2 ^ 32
+  pub size : p .fields .size < 2 ^ 16
+  pub apic : p .fields .apic < 2 ^ 32
+
+-- What is not refused before the image is judged.
+record Fits (p : Parts) (room : List ℕ) : Type 0 where
+  pub base : baseSize p ≤ partMost
+  pub extended : length (p .extended) ≤ partMost
+  pub whole : imageSize p ≤ length room
+
+module _ (p : Parts) (room : List ℕ) where
+  fits-early : Fits p room → earlyRefusal p room ≡ 0
+  unfolding earlyRefusal refusal
+  fits-early f = simp (le-ltb _ _ (f .base), le-ltb _ _ (f .extended), le-ltb _ _ (f .whole))
+
+  early-fits : earlyRefusal p room ≡ 0 → Fits p room
+  unfolding earlyRefusal
+  early-fits e =
+      let b = refusal-pass baseNumber (ltb partMost (baseSize p)) _ (omega arith) e in
+      let x = refusal-pass extendedNumber (ltb partMost (length (p .extended))) _ (omega arith) (b .1) in
+      let r = refusal-pass roomNumber (ltb (length room) (imageSize p)) _ (omega arith) (x .1) in
+      record { base = ltb-false _ _ (b .0); extended = ltb-false _ _ (x .0); whole = ltb-false _ _ (r .0) }
+
+  left-image : earlyRefusal p room ≡ 0 → tableRefusal (image p) ≡ 0 → writeLeft p room ≡ put (image p) room
+  unfolding writeLeft
+  left-image e f = rw (e, f)
+
+-- "Writing the parts of an accepted table gives its bytes again"
+module _ (t : List ℕ) (b : Bytes t) (a : tableRefusal t ≡ 0) where
+  -- the image is the table, from its first byte to its extended end,
+  pub image-again : image (partsOf t) ≡ take (extendedEnd t) t
+  unfolding image partsOf
+  image-again =
+      let s = sound t a in
+      rw (base-sum-again t b s, extended-sum-again t b s, ← header-again t b s, ← append-assoc (take headerSize t) (basePart t) (extendedPart t))
+      (rw (take-part headerSize (baseLength t) t (s .low)) (take-part (baseLength t) (extendedEnd t) t (omega arith)))
+
+  pub parts-proper : Proper (partsOf t)
+  unfolding partsOf fieldsOf
+  parts-proper =
+      let s = sound t a in
+      let l = s .long in
+      record {
+        oem = length-part 8 16 t (omega arith);
+        product = length-part 16 28 t (omega arith);
+        pointer = le-below 4 t 28 b;
+        size = le-below 2 t 32 b;
+        apic = le-below 4 t 36 b;
+      }
+
+  -- which is accepted too,
+  again-accepted : tableRefusal (image (partsOf t)) ≡ 0
+  again-accepted =
+      let s = sound t a in
+      let n = extendedEnd t in
+      let l = length-take-le n t (s .extended-inside) in
+      rw image-again (agree-refusal t (take n t) s (omega arith) (take-take n n t (omega arith)) ∙ a)
+
+  -- and the call answers so in every room that holds it.
+  pub written-again : (room : List ℕ) → extendedEnd t ≤ length room
+      → (written (partsOf t) room ≡ Written·Bytes (extendedEnd t)) × (writeLeft (partsOf t) room ≡ put (take (extendedEnd t) t) room)
+  unfolding written writeRefusal
+  written-again room h =
+      let s = sound t a in
+      let b = base-again t s in
+      let x = extended-again t s in
+      let n : imageSize (partsOf t) ≡ extendedEnd t = omega arith in
+      let e = fits-early (partsOf t) room (record { base = rw b (s .most); extended = rw x (s .extended-most); whole = rw n h }) in
+      (rw (e, again-accepted, n), left-image (partsOf t) room e again-accepted ∙ rw image-again)
+
+-- The answer of a table's parts, told by them.
+parted-parts : (t : List ℕ) → tableRefusal t ≡ 0
+    → parted t ≡ Parted·Parts (baseSize (partsOf t)) (imageSize (partsOf t))
+unfolding parted partsOf
+parted-parts t a = let s = sound t a in rw (a, base-again t s, extended-again t s)
+
+-- ".. and reading what was written gives the parts again": the table that stands in the room is accepted, and these are its parts.
+module _ (p : Parts) (room : List ℕ) (proper : Proper p) (a : writeRefusal p room ≡ 0) where
+  not-refused : (earlyRefusal p room ≡ 0) × (tableRefusal (image p) ≡ 0)
+  unfolding writeRefusal
+  not-refused = first-none (earlyRefusal p room) (tableRefusal (image p)) a
+
+  left-so : writeLeft p room ≡ put (image p) room
+  left-so = left-image p room (not-refused .0) (not-refused .1)
+
+  image-sound : Sound (image p)
+  image-sound = sound (image p) (not-refused .1)
+
+  long : extendedEnd (image p) ≤ length (put (image p) room)
+  long = let l = image-sound .extended-inside in omega (arith, length-append (image p) (drop (length (image p)) room))
+
+  same : take (extendedEnd (image p)) (put (image p) room) ≡ take (extendedEnd (image p)) (image p)
+  same = take-append-le (extendedEnd (image p)) (image p) (drop (length (image p)) room) (image-sound .extended-inside)
+
+  pub read-accepted : tableRefusal (writeLeft p room) ≡ 0
+  read-accepted = rw left-so (agree-refusal (image p) (put (image p) room) image-sound long same ∙ not-refused .1)
+
+  image-fields : fieldsOf (image p) ≡ p .fields
+  unfolding fieldsOf
+  image-fields =
+      let f = p .fields in
+      let r = image-reads p in
+      rw (
+        r .oem ∙ exactly-all 8 (f .oem) (proper .oem),
+        r .product ∙ exactly-all 12 (f .product) (proper .product),
+        r .pointer ∙ mod-eq-of-lt (proper .pointer),
+        r .size ∙ mod-eq-of-lt (proper .size),
+        r .apic ∙ mod-eq-of-lt (proper .apic),
+        r .reserved,
+      )
+
+  image-parts : partsOf (image p) ≡ p
+  unfolding partsOf
+  image-parts =
+      let f = early-fits p room (not-refused .0) in
+      let b : baseSize p < 256 ^ 2 = let l = f .base in omega arith in
+      let x : length (p .extended) < 256 ^ 2 = let l = f .extended in omega arith in
+      rw (image-fields, image-base p b x, image-extended p b x)
+
+  pub read-again : partsOf (writeLeft p room) ≡ p
+  read-again = rw left-so (agree-parts (image p) (put (image p) room) image-sound long same ∙ image-parts)
+
+  -- As the calls answer: where the entries end, and the header fields.
+  pub read-parted : parted (writeLeft p room) ≡ Parted·Parts (baseSize p) (imageSize p)
+  read-parted = rw (parted-parts (writeLeft p room) read-accepted, read-again)
+
+  pub read-fields : fieldsOf (exactly headerSize (writeLeft p room)) ≡ p .fields
+  unfolding partsOf
+  read-fields =
+      fields-inside (writeLeft p room) (sound (writeLeft p room) read-accepted .long)
+      ∙ ap (λ (q : Parts). q .fields) read-again

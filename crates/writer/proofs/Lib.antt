@@ -1,0 +1,4 @@
+pub mod Laws
+pub mod Laying
+pub mod Calls
+pub mod Reading
