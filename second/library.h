@@ -28,7 +28,10 @@ uint64_t ruxtajma_write(const uint8_t *oem, size_t oem_length,
                         const uint8_t *extended, size_t extended_length,
                         uint8_t *room, size_t room_length);
 
-/* As plain_edit() of edit.h. */
+/*
+ * As plain_edit() of edit.h.  No slice overlaps the table: the stated bytes are
+ * a copy of what was seen.
+ */
 uint32_t ruxtajma_edit(uint8_t *table, size_t length, size_t place,
                        const uint8_t *stated, size_t stated_length,
                        const uint8_t *wanted, size_t wanted_length);

@@ -114,10 +114,6 @@ module _ (t : List ℕ) (e : Edit) (s : Sound t) (h : Shaped t e) where
       (piece-set baseEntryLength base-told (basePart t) (e .place) (e .wanted)
       (walked-whole 0 _ (s .walked)) (omega (arith, s .counted, h .place)) (h .wanted) (h .kind))
 
-  pub replaced-part : basePart (editedTable t e) ≡ asOne (set (baseEntries t) (e .place) (e .wanted))
-  unfolding baseEntries
-  replaced-part = sym (joined-cut baseEntryLength base-told (basePart (editedTable t e))) ∙ ap asOne replaced-entries
-
   replaced-signature : signature (editedTable t e) ≡ signature t
   unfolding editedTable
   replaced-signature = sealed-take stored 4 (omega arith) ∙ sets-take t at (e .wanted) 4 (omega (arith, there .low))

@@ -58,6 +58,11 @@ module _ (t : List ℕ) (e : Edit) where
         λ n. whether (same (e .stated) s) (λ p. absurd (n (same-true (e .stated) s p))) (λ p. rw p),
       )
 
+  -- The author saw what stands there: not 22.
   pub unchanged-seen : changed t e ≡ false → e .stated ≡ standing t (e .place)
   unfolding changed
   unchanged-seen c = same-true (e .stated) (standing t (e .place)) (not-false (same (e .stated) (standing t (e .place))) c)
+
+  pub seen-unchanged : e .stated ≡ standing t (e .place) → changed t e ≡ false
+  unfolding changed
+  seen-unchanged p = rw (same-is (e .stated) (standing t (e .place)) p)

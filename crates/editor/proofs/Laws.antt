@@ -5,7 +5,7 @@ use mathlib.Core.Bool.{Bool, true, false, not, true≢false}
 use mathlib.Core.List.{List, [], _∷_, append-assoc}
 use native.Mathlib.Omega.{arith}
 use lib.Dec.{leb, eqb}
-use borrow.Author.Tests.{ne-eqb}
+use borrow.Author.Tests.{eq-eqb, ne-eqb, eqb-true}
 use Rattle.mps.specs.Words.{among, any, each, first}
 use Rattle.mps.specs.Refusals.{Rule, _when_, refusal, innerNumber}
 use Rattle.mps.specs.Answers.{editedOf}
@@ -19,7 +19,7 @@ use Rattle.editor.specs.declared.Tested.{Tested}
 use Rattle.editor.specs.declared.Tested.the-variants.{At, Refused}
 use Rattle.accepted.proofs.Sound.{sound}
 use Rattle.accepted.proofs.Stands.{stands}
-use Rattle.accepted.proofs.Shaped.{Shaped, passes-shape, unchanged-seen}
+use Rattle.accepted.proofs.Shaped.{Shaped, shape-passes, passes-shape, unchanged-seen, seen-unchanged}
 use Rattle.editor.proofs.Tests.{tests-number}
 
 -- ---- The answer of the tests, taken apart
@@ -72,12 +72,12 @@ unfolding testRules entryRules tableRules among each any
 tests-given t e = (refl, refl)
 
 -- What the tests have shown.
-record Passed (t : List ℕ) (e : Edit) : Type 0 where
-  table : tableRefusal t ≡ 0
-  shaped : Shaped t e
-  seen : e .stated ≡ standing t (e .place)
+pub record Passed (t : List ℕ) (e : Edit) : Type 0 where
+  pub table : tableRefusal t ≡ 0
+  pub shaped : Shaped t e
+  pub seen : e .stated ≡ standing t (e .place)
 
-passed-tests : (t : List ℕ) (e : Edit) → refusal (testRules t e) ≡ 0 → Passed t e
+pub passed-tests : (t : List ℕ) (e : Edit) → refusal (testRules t e) ≡ 0 → Passed t e
 unfolding entryRules
 passed-tests t e z =
     let a = first-none (tableRefusal t) (refusal (entryRules t e)) (sym (tests-number t e) ∙ z) in
@@ -92,6 +92,19 @@ module _ (t : List ℕ) (e : Edit) where
   edit-number =
       ap refusal (sym (append-assoc (tableRules t) (entryRules t e) _))
       ∙ refusal-append (testRules t e) _ (tests-given t e .0)
+
+  -- No number is given exactly where the tests are passed and the edited table is accepted.
+  pub edit-none : editRefusal t e ≡ 0 → Passed t e × (innerRefusal t e ≡ 0)
+  edit-none n =
+      let i = innerRefusal t e in
+      let parts = first-none (refusal (testRules t e)) (inner i) (sym edit-number ∙ n) in
+      (passed-tests t e (parts .0), eqb-true i 0 (sym (inner-none i) ∙ eq-eqb (inner i) 0 (parts .1)))
+
+  pub edit-passes : Passed t e → innerRefusal t e ≡ 0 → editRefusal t e ≡ 0
+  unfolding entryRules refusal inner
+  edit-passes p i =
+      let shape = shape-passes t e (p .shaped) in
+      edit-number ∙ rw (tests-number t e, p .table, shape .0, shape .1, seen-unchanged t e (p .seen), i)
 
   pub edit-refused : (n : ℕ) {a : Tested} → a ≡ tested t e → a ≡ Refused n
       → (Edited·Refused n ≡ edited t e) × (t ≡ editLeft t e)

@@ -3,8 +3,7 @@ use Prim.Native.Nat.{ℕ, _+_, _*_, _^_}
 use mathlib.Core.List.{List}
 use Rattle.mps.specs.Words.{exactly}
 use Rattle.mps.specs.Refusals.{innerNumber}
-use Rattle.mps.specs.Writing.{Parts}
-use Rattle.mps.specs.Edits.{Edit}
+use Rattle.mps.specs.declared.Fields.{Fields}
 use Rattle.mps.specs.declared.Written.{Written}
 use Rattle.mps.specs.declared.Written.the-variants.{Bytes, Refused}
 use Rattle.mps.specs.declared.Edited.{Edited}
@@ -29,13 +28,6 @@ editedCode (Inner n) = innerNumber + n * 256
 -- ---- Arguments
 
 -- Eight bytes are taken of the OEM ID, and twelve of the product.
-abbrev pub partsOf : List ℕ → List ℕ → ℕ → ℕ → ℕ → ℕ → List ℕ → List ℕ → Parts
-partsOf oem product pointer size apic reserved base extended = record {
-  fields =
-      record { oem = exactly 8 oem; product = exactly 12 product; pointer = pointer; size = size; apic = apic; reserved = reserved };
-  base = base;
-  extended = extended;
-}
-
-abbrev pub editOf : ℕ → List ℕ → List ℕ → Edit
-editOf place stated wanted = record { place = place; stated = stated; wanted = wanted }
+abbrev pub fieldsGiven : List ℕ → List ℕ → ℕ → ℕ → ℕ → ℕ → Fields
+fieldsGiven oem product pointer size apic reserved =
+    record { oem = exactly 8 oem; product = exactly 12 product; pointer = pointer; size = size; apic = apic; reserved = reserved }

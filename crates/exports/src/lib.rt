@@ -2,9 +2,11 @@
 //
 // Promised of any bytes: `ruxtajma_judge` answers 0 for accepted, else the refusal's number; `ruxtajma_list`,
 // `ruxtajma_write` and `ruxtajma_edit` answer a length or a refusal's numbers, as specs/Codes.antt puts them into one. The
-// definitions stand in mps's specs/Judge.antt, Listing.antt, Writing.antt and Edits.antt. A slice is a pointer and a length: the caller lends that many readable bytes
-// for the time of the call, writable ones for a room, which no other slice of the call overlaps; the pointer is not null
-// even where the length is 0.
+// definitions stand in mps's specs/Judge.antt, Listing.antt, Writing.antt and Edits.antt.
+//
+// A slice is a pointer and a length: the caller lends that many readable bytes for the time of the call, writable ones for a
+// room or for the table of an edit, which no other slice of the call overlaps: the stated bytes are a copy, never those of
+// the table itself. The pointer is not null even where the length is 0.
 use mps::Edited;
 use mps::Fields;
 use mps::Written;
@@ -13,7 +15,9 @@ ghost use Rattle.mps.specs.Judge.{tableRefusal};
 ghost use Rattle.mps.specs.Listing.{listed, listLeft};
 ghost use Rattle.mps.specs.Writing.{written, writeLeft};
 ghost use Rattle.mps.specs.Edits.{edited, editLeft};
-ghost use Rattle.exports.specs.Codes.{writtenCode, editedCode, partsOf, editOf};
+ghost use Rattle.writer.specs.Laid.{partsGiven};
+ghost use Rattle.editor.specs.Tested.{editOf};
+ghost use Rattle.exports.specs.Codes.{writtenCode, editedCode, fieldsGiven};
 
 // 2^32
 const HIGH_HALF: u64 = 0x100000000;
@@ -70,8 +74,8 @@ pub extern "C" fn ruxtajma_write(
     extended: &[u8],
     room: &mut [u8],
 ) -> u64
-    ensures { λ r. ⌜ r ≡ writtenCode (written (partsOf (now (oem .entry)) (now (product .entry)) pointer size apic reserved (now (base .entry)) (now (extended .entry))) (now (room .entry))) ⌝ }
-    ensures { λ _. ⌜ now (room .exit) ≡ writeLeft (partsOf (now (oem .entry)) (now (product .entry)) pointer size apic reserved (now (base .entry)) (now (extended .entry))) (now (room .entry)) ⌝ }
+    ensures { λ r. ⌜ r ≡ writtenCode (written (partsGiven (fieldsGiven (now (oem .entry)) (now (product .entry)) pointer size apic reserved) (now (base .entry)) (now (extended .entry))) (now (room .entry))) ⌝ }
+    ensures { λ _. ⌜ now (room .exit) ≡ writeLeft (partsGiven (fieldsGiven (now (oem .entry)) (now (product .entry)) pointer size apic reserved) (now (base .entry)) (now (extended .entry))) (now (room .entry)) ⌝ }
 {
     let mut id = [0; 8];
     slices::copy(&mut id, 0, oem);

@@ -5,7 +5,7 @@ use mathlib.Core.Bool.{Bool, true, false, _&&_, false≢true, or-true}
 use mathlib.Core.List.{List, [], _∷_, _++_, append-assoc}
 use native.Mathlib.Omega.{arith}
 use native.Mathlib.Numerals.{add-one}
-use lib.ListN.{length, getD, drop, drop-of-length-le}
+use lib.ListN.{length, getD, take, drop, replicate, drop-of-length-le}
 use lib.Seq.{drop-cons}
 use lib.Dec.{eqb}
 use borrow.Author.Tests.{eqb-true, eq-eqb}
@@ -105,3 +105,14 @@ exactly-all zero [] e = refl
 exactly-all zero (x ∷ s) e = absurd (omega arith)
 exactly-all (suc k) [] e = absurd (omega arith)
 exactly-all (suc k) (x ∷ s) e = ap (λ (l : List ℕ). x ∷ l) (exactly-all k s (omega arith))
+
+pub exactly-none : (n : ℕ) → replicate n 0 ≡ exactly n []
+unfolding exactly
+exactly-none zero = refl
+exactly-none (suc n) = ap (λ (l : List ℕ). 0 ∷ l) (exactly-none n)
+
+pub exactly-take : (n : ℕ) (s : List ℕ) → n ≤ length s → exactly n s ≡ take n s
+unfolding exactly
+exactly-take zero s h = refl
+exactly-take (suc n) [] h = absurd (omega arith)
+exactly-take (suc n) (x ∷ s) h = ap (λ (l : List ℕ). x ∷ l) (exactly-take n s (omega arith))

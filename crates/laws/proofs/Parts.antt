@@ -63,6 +63,10 @@ drop-inside n s =
     let k = leb-false n (length s) h in
     drop-of-length-le s {i = min n (length s)} (omega arith) ∙ sym (drop-of-length-le s {i = n} (omega arith)))
 
+-- A part of the first n bytes.
+pub part-take : (a b n : ℕ) (s : List ℕ) → b ≤ n → part a b (take n s) ≡ part a b s
+part-take a b n s h = rw (drop-take a n s) (take-take (b - a) (n - a) (drop a s) (omega arith))
+
 -- Two lists with the same first n bytes: what reads no other byte reads the same of both.
 module _ (n : ℕ) (t u : List ℕ) (same : take n u ≡ take n t) where
   pub alike : {A : Type 0} (f : List ℕ → A) → ((s : List ℕ) → f (take n s) ≡ f s) → f u ≡ f t
@@ -75,7 +79,7 @@ module _ (n : ℕ) (t u : List ℕ) (same : take n u ≡ take n t) where
   alike-byte i h = alike (λ (s : List ℕ). byte s i) (λ s. getD-take n s i 0 h)
 
   pub alike-part : (a b : ℕ) → b ≤ n → part a b u ≡ part a b t
-  alike-part a b h = alike (part a b) (λ s. rw (drop-take a n s) (take-take (b - a) (n - a) (drop a s) (omega arith)))
+  alike-part a b h = alike (part a b) (λ s. part-take a b n s h)
 
 -- ---- The bytes from a place on: one piece, then what is behind it
 

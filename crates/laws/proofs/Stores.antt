@@ -1,13 +1,14 @@
 -- Laws of `sets`: bytes stored one behind the other from a place on (lib.Seq). Assumes nothing.
-use Prim.Native.Nat.{ℕ, suc, _+_, _-_, _<_, _≤_}
+use Prim.Native.Nat.{ℕ, zero, suc, _+_, _-_, _<_, _≤_}
 use mathlib.Core.Path.{_≡_, refl, ap, sym, _∙_}
 use mathlib.Core.List.{List, [], _∷_, _++_, append-assoc}
 use native.Mathlib.Omega.{arith}
 use native.Mathlib.Nat.{zero-add, add-zero, add-suc, suc-add}
-use lib.ListN.{length, set, take, drop, take-append-drop}
+use lib.ListN.{length, set, take, drop, replicate, take-append-drop}
 use lib.Seq.{sets, sets-eq, set-out, take-set-le, drop-set-lt, getD-take, take-set-lt, drop-set-add, drop-drop, set-set, set-comm}
-use Rattle.mps.specs.Words.{byte, part}
+use Rattle.mps.specs.Words.{byte, part, exactly}
 use Rattle.laws.proofs.Parts.{drop-take}
+use Rattle.laws.proofs.Lists.{exactly-none}
 
 -- Past the end nothing is stored.
 pub sets-past : (t : List ℕ) (at : ℕ) (w : List ℕ) → length t ≤ at → sets t at w ≡ t
@@ -86,3 +87,15 @@ sets-standing t at v h e =
     let f : v ++ drop (at + length v) t ≡ drop at t =
     rw (← drop-drop (length v) at t) (ap (λ (l : List ℕ). l ++ drop (length v) (drop at t)) (sym e) ∙ take-append-drop (length v) (drop at t)) in
     sets-fit t at v h ∙ ap (λ (l : List ℕ). take at t ++ l) f ∙ take-append-drop at t
+
+-- ---- Bytes stored in zeros
+
+sets-cons : (x : ℕ) (s : List ℕ) (at : ℕ) (w : List ℕ) → sets (x ∷ s) (suc at) w ≡ x ∷ sets s at w
+sets-cons x s at [] = refl
+sets-cons x s at (y ∷ w) = sets-cons x (set s at y) (suc at) w
+
+pub sets-zeros : (n : ℕ) (w : List ℕ) → sets (replicate n 0) 0 w ≡ exactly n w
+unfolding exactly
+sets-zeros n [] = exactly-none n
+sets-zeros zero (x ∷ w) = sets-past [] 1 w (omega arith)
+sets-zeros (suc n) (x ∷ w) = sets-cons x (replicate n 0) 0 w ∙ ap (λ (l : List ℕ). x ∷ l) (sets-zeros n w)

@@ -1,21 +1,24 @@
 -- Demand 2: "Writing the parts of an accepted table gives its bytes again, and reading what was written gives the parts
 -- again." Assumes nothing.
-use Prim.Native.Nat.{ℕ, _^_, _<_, _≤_}
-use mathlib.Core.Path.{_≡_, ap, _∙_}
-use mathlib.Core.List.{List, append-assoc}
+use Prim.Native.Nat.{ℕ, zero, suc, _^_, _<_, _≤_}
+use mathlib.Core.Path.{_≡_, refl, ap, sym, _∙_}
+use mathlib.Core.Bool.{Bool, true, false, true≢false}
+use mathlib.Core.List.{List, [], _∷_, append-assoc}
 use native.Mathlib.Omega.{arith}
 use native.Mathlib.Nat.{mod-eq-of-lt}
-use lib.ListN.{length, take, drop, length-append}
+use lib.ListN.{length, getD, take, drop, length-append}
 use lib.Seq.{length-take-le, take-take, take-append-le}
 use lib.Dec.{ltb}
-use borrow.Author.Tests.{le-ltb, ltb-false}
-use Rattle.mps.specs.Words.{exactly, put}
-use Rattle.mps.specs.Refusals.{refusal, baseNumber, extendedNumber, roomNumber}
+use borrow.Author.Tests.{ltb-false}
+use Rattle.mps.specs.Words.{exactly, part, put}
+use Rattle.mps.specs.Answers.{partedOf}
+use Rattle.mps.specs.Refusals.{baseNumber, extendedNumber, roomNumber}
 use Rattle.mps.specs.Layout.{partMost, headerSize, baseLength, extendedEnd, basePart, extendedPart}
 use Rattle.mps.specs.Judge.{tableRefusal}
 use Rattle.mps.specs.Writing.{Parts, partsOf, fieldsOf, parted, image, imageSize, baseSize, earlyRefusal, writeRefusal, written, writeLeft}
 use Rattle.mps.specs.declared.Written.the-variants.{Bytes as Written·Bytes}
-use Rattle.mps.specs.declared.Parted.the-variants.{Parts as Parted·Parts}
+use Rattle.mps.specs.declared.Parted.{Parted}
+use Rattle.mps.specs.declared.Parted.the-variants.{Parts as Parted·Parts, Refused as Parted·Refused}
 use Rattle.laws.proofs.Lists.{exactly-all}
 use Rattle.laws.proofs.Refusals.{first-none, refusal-pass}
 use Rattle.laws.proofs.Parts.{length-part, take-part}
@@ -23,6 +26,7 @@ use Rattle.laws.proofs.Small.{Bytes}
 use Rattle.numbers.proofs.Laws.{le-below}
 use Rattle.accepted.proofs.Sound.{Sound, sound}
 use Rattle.accepted.proofs.Agree.{agree-refusal, agree-parts}
+use Rattle.writer.proofs.Calls.{write-none}
 use Rattle.writer.proofs.Reading.{fields-inside}
 use Rattle.promises.proofs.Headers.{image-reads, image-base, image-extended, base-again, extended-again, header-again, base-sum-again, extended-sum-again}
 
@@ -42,8 +46,7 @@ record Fits (p : Parts) (room : List ℕ) : Type 0 where
 
 module _ (p : Parts) (room : List ℕ) where
   fits-early : Fits p room → earlyRefusal p room ≡ 0
-  unfolding earlyRefusal refusal
-  fits-early f = simp (le-ltb _ _ (f .base), le-ltb _ _ (f .extended), le-ltb _ _ (f .whole))
+  fits-early f = write-none p room (f .base) (f .extended) (f .whole)
 
   early-fits : earlyRefusal p room ≡ 0 → Fits p room
   unfolding earlyRefusal
@@ -99,6 +102,29 @@ module _ (t : List ℕ) (b : Bytes t) (a : tableRefusal t ≡ 0) where
       let n : imageSize (partsOf t) ≡ extendedEnd t = omega arith in
       let e = fits-early (partsOf t) room (record { base = rw b (s .most); extended = rw x (s .extended-most); whole = rw n h }) in
       (rw (e, again-accepted, n), left-image (partsOf t) room e again-accepted ∙ rw image-again)
+
+-- ---- The same by the calls: what `parts` and `fields` answer of a table is what `write` needs to make it again
+
+isParts : Parted → Bool
+isParts (Parted·Parts base end) = true
+isParts (Parted·Refused n) = false
+
+ends : Parted → List ℕ
+ends (Parted·Parts base end) = base ∷ end ∷ []
+ends (Parted·Refused n) = 0 ∷ 0 ∷ []
+
+parts-accepted : (n a b base end : ℕ) → partedOf n (Parted·Parts a b) ≡ Parted·Parts base end → (n ≡ 0) × (a ≡ base) × (b ≡ end)
+unfolding isParts ends
+parts-accepted zero a b base end e = (refl, ap (λ (r : Parted). getD (ends r) 0 0) e, ap (λ (r : Parted). getD (ends r) 1 0) e)
+parts-accepted (suc n) a b base end e = absurd (true≢false (sym (ap isParts e)))
+
+pub calls-again : (t : List ℕ) (base end : ℕ) (room : List ℕ) → Bytes t → parted t ≡ Parted·Parts base end → end ≤ length room
+    → let p : Parts = record { fields = fieldsOf (exactly headerSize t); base = part headerSize base t; extended = part base end t } in
+    (written p room ≡ Written·Bytes end) × (writeLeft p room ≡ put (take end t) room)
+unfolding parted partsOf
+calls-again t base end room b e h =
+    let k = parts-accepted (tableRefusal t) (baseLength t) (extendedEnd t) base end e in
+    rw (fields-inside t (sound t (k .0) .long), ← k .1, ← k .2) (written-again t b (k .0) room (rw (k .2) h))
 
 -- The answer of a table's parts, told by them.
 parted-parts : (t : List ℕ) → tableRefusal t ≡ 0

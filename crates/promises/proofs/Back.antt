@@ -5,18 +5,20 @@ use mathlib.Core.Logic.{_↔_}
 use mathlib.Core.List.{List, [], _∷_}
 use lib.ListN.{length, take, take-append-drop}
 use lib.Seq.{set-getD, set-set}
+use Rattle.mps.specs.Words.{each}
 use Rattle.mps.specs.Layout.{extendedEnd, baseEntries}
 use Rattle.mps.specs.Writing.{partsOf, image}
-use Rattle.mps.specs.Edits.{Edit, standing, offsetOf, edited, editLeft, run}
+use Rattle.mps.specs.Judge.{tableRefusal}
+use Rattle.mps.specs.Edits.{Edit, standing, offsetOf, editedTable, edited, editLeft, run}
 use Rattle.mps.specs.declared.Edited.the-variants.{Done, Refused}
-use Rattle.laws.proofs.Small.{Bytes, bytes-part}
+use Rattle.laws.proofs.Small.{Bytes, Small, small-none, small-more, bytes-part}
 use Rattle.accepted.proofs.Sound.{sound}
 use Rattle.accepted.proofs.Stands.{stands}
 use Rattle.accepted.proofs.Shaped.{Shaped}
 use Rattle.promises.proofs.Again.{image-again}
-use Rattle.promises.proofs.Edits.{changed-exactly, done-accepted}
-use Rattle.promises.proofs.Fresh.{Kept, kept-all, kept-then, kept-parts, edited-kept, edited-entries}
-use Rattle.promises.proofs.Runs.{Good, Small, left-good, run-good, run-kept}
+use Rattle.promises.proofs.Edits.{changed-exactly, accepted-done, done-accepted}
+use Rattle.promises.proofs.Fresh.{Kept, kept-all, kept-parts, edited-entries}
+use Rattle.promises.proofs.Runs.{Good, wantedOf, run-good, run-kept}
 
 -- Two tables with the same parts and the same bytes behind are the same.
 same-table : (t u : List ℕ) → Kept t u → Good t → Good u → baseEntries u ≡ baseEntries t → u ≡ t
@@ -35,37 +37,48 @@ seen-bytes t e d b =
     let size = length (standing t (e .place)) in
     rw (a .seen, s .bytes) (bytes-part from (from + size) t b)
 
--- Every byte is as it was, so that every later edit is answered as if nothing had been asked: one that states the first
--- bytes too.
-pub changed-back : (t : List ℕ) (e f : Edit) → Bytes t → Bytes (e .wanted) → edited t e ≡ Done → edited (editLeft t e) f ≡ Done
-    → f .place ≡ e .place → f .wanted ≡ e .stated → run t (e ∷ f ∷ []) ≡ t
-unfolding run standing
-changed-back t e f b w d g p q =
-    let a = done-accepted t e d in
-    let u = editLeft t e in
-    let good : Good t = record { bytes = b; table = a .table } in
-    let after = left-good t e good w in
-    let last = left-good u f after (rw q (seen-bytes t e d b)) in
-    let kept = kept-then t u (editLeft u f) (edited-kept t e d) (edited-kept u f g) in
-    let entries : baseEntries (editLeft u f) ≡ baseEntries t =
-    edited-entries u f g
-    ∙ rw (edited-entries t e d, p, q, a .seen, set-set (baseEntries t) (e .place) (e .wanted) (standing t (e .place)))
-    (set-getD (baseEntries t) (e .place) []) in
-    same-table t (editLeft u f) kept good last entries
+-- A run that leaves every entry as it stood at first leaves every byte so.
+pub run-back : (t : List ℕ) (es : List Edit) → Good t → Small (wantedOf es) → baseEntries (run t es) ≡ baseEntries t → run t es ≡ t
+run-back t es g s e = same-table t (run t es) (run-kept t es) g (run-good t es g s) e
 
--- And after any run, an edit of an entry that stands as it stood at first is refused as changed exactly when it would have
--- been at first.
-pub stands-again : (t : List ℕ) (es : List Edit) (e : Edit) → Good t → Small es → Shaped t e
-    → standing (run t es) (e .place) ≡ standing t (e .place)
-    → (edited (run t es) e ≡ Refused 22) ↔ (edited t e ≡ Refused 22)
-stands-again t es e g small h s =
-    let u = run t es in
-    let shaped : Shaped u e = record {
-      place = rw (run-kept t es .count) (h .place);
-      stated = rw s (h .stated);
-      wanted = rw s (h .wanted);
-      kind = rw s (h .kind);
-    } in
-    let now = changed-exactly u e (run-good t es g small .table) shaped in
-    let then = changed-exactly t e (g .table) h in
-    (λ r. then .1 (rw s at (now .0 r)), λ r. now .1 (rw s (then .0 r)))
+-- One edit, and one that puts the first bytes back.
+module _ (t : List ℕ) (e f : Edit) (b : Bytes t) (w : Bytes (e .wanted)) (d : edited t e ≡ Done)
+    (g : edited (editLeft t e) f ≡ Done) (p : f .place ≡ e .place) (q : f .wanted ≡ e .stated) where
+  pub changed-back : run t (e ∷ f ∷ []) ≡ t
+  unfolding run standing each
+  changed-back =
+      let a = done-accepted t e d in
+      let u = editLeft t e in
+      let k = e .place in
+      let es = baseEntries t in
+      let entries : baseEntries (editLeft u f) ≡ es = edited-entries u f g ∙ rw (edited-entries t e d, p, q, a .seen, set-set es k (e .wanted) (standing t k)) (set-getD es k []) in
+      run-back t (e ∷ f ∷ []) (record { bytes = b; table = a .table })
+      (small-more w (small-more (rw q (seen-bytes t e d b)) small-none)) entries
+
+  -- So every later edit is answered as it would have been at first,
+  pub back-answered : (later : Edit) → edited (run t (e ∷ f ∷ [])) later ≡ edited t later
+  back-answered later = ap (λ (s : List ℕ). edited s later) changed-back
+
+  -- and one that states the first bytes is accepted as the first one was.
+  pub back-accepted : edited (run t (e ∷ f ∷ [])) e ≡ Done
+  back-accepted = back-answered e ∙ d
+
+-- After any run, where an entry stands as it stood at first, an edit of the right shape that states the first bytes is not refused
+-- as changed: it is accepted wherever the table that it makes is.
+module _ (t : List ℕ) (es : List Edit) (e : Edit) (g : Good t) (small : Small (wantedOf es)) (h : Shaped t e)
+    (s : standing (run t es) (e .place) ≡ standing t (e .place)) where
+  shape-again : Shaped (run t es) e
+  shape-again = record {
+    place = rw (run-kept t es .count) (h .place);
+    stated = rw s (h .stated);
+    wanted = rw s (h .wanted);
+    kind = rw s (h .kind);
+  }
+
+  pub stands-exactly : (edited (run t es) e ≡ Refused 22) ↔ (e .stated ≡ standing t (e .place) → ⊥)
+  stands-exactly =
+      let now = changed-exactly (run t es) e (run-good t es g small .table) shape-again in
+      (λ r. rw s at (now .0 r), λ o. now .1 (rw s o))
+
+  pub stands-accepted : e .stated ≡ standing t (e .place) → tableRefusal (editedTable (run t es) e) ≡ 0 → edited (run t es) e ≡ Done
+  stands-accepted p a = accepted-done (run t es) e (run-good t es g small .table) shape-again (rw s p) a

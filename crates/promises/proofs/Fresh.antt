@@ -70,19 +70,19 @@ module _ (t u : List ℕ) (k : Kept t u) (b : Bytes u) (a : tableRefusal u ≡ 0
 -- ---- One edit
 
 module _ (t : List ℕ) (e : Edit) (d : edited t e ≡ Done) where
-  ours : Accepted t e
-  ours = done-accepted t e d
+  told : Accepted t e
+  told = done-accepted t e d
 
   entry-inside : offsetOf t (e .place) + length (standing t (e .place)) ≤ extendedEnd t
   entry-inside =
-      let s = stands t (e .place) (sound t (ours .table)) (ours .shaped .place) in
+      let s = stands t (e .place) (sound t (told .table)) (told .shaped .place) in
       omega (arith, s .inside)
 
   pub edited-kept : Kept t (editLeft t e)
   edited-kept =
-      let s = sound t (ours .table) in
-      let h = ours .shaped in
-      rw (ours .left) (record {
+      let s = sound t (told .table) in
+      let h = told .shaped in
+      rw (told .left) (record {
         size = replaced-length t e s h;
         fields = replaced-fields t e s h;
         count = replaced-count t e s h;
@@ -92,13 +92,13 @@ module _ (t : List ℕ) (e : Edit) (d : edited t e ≡ Done) where
       })
 
   pub edited-accepted : tableRefusal (editLeft t e) ≡ 0
-  edited-accepted = rw (ours .left) (ours .again)
+  edited-accepted = rw (told .left) (told .again)
 
   pub edited-bytes : Bytes t → Bytes (e .wanted) → Bytes (editLeft t e)
-  edited-bytes b w = rw (ours .left) (replaced-bytes t e (sound t (ours .table)) (ours .shaped) b w)
+  edited-bytes b w = rw (told .left) (replaced-bytes t e (sound t (told .table)) (told .shaped) b w)
 
   pub edited-entries : baseEntries (editLeft t e) ≡ set (baseEntries t) (e .place) (e .wanted)
-  edited-entries = rw (ours .left) (replaced-entries t e (sound t (ours .table)) (ours .shaped))
+  edited-entries = rw (told .left) (replaced-entries t e (sound t (told .table)) (told .shaped))
 
   -- "An accepted edit gives exactly the table that the writer makes afresh from the standing header fields and the edited
   -- entries": written over the table itself, they leave the same.
@@ -112,10 +112,10 @@ module _ (t : List ℕ) (e : Edit) (d : edited t e ≡ Done) where
   edited-length = edited-kept .size
 
   pub edited-before : (i : ℕ) → (i ≡ checksumAt → ⊥) → i < offsetOf t (e .place) → byte (editLeft t e) i ≡ byte t i
-  edited-before i n h = rw (ours .left) (replaced-before t e (sound t (ours .table)) (ours .shaped) i n h)
+  edited-before i n h = rw (told .left) (replaced-before t e (sound t (told .table)) (told .shaped) i n h)
 
   pub edited-behind : (i : ℕ) → offsetOf t (e .place) + length (standing t (e .place)) ≤ i → byte (editLeft t e) i ≡ byte t i
   edited-behind i h =
       let q : i + 0 ≡ i = omega arith in
-      rw (ours .left)
-      (rw q at (sym (getD-drop i (editedTable t e) 0 0) ∙ ap (λ (s : List ℕ). byte s 0) (replaced-behind t e (sound t (ours .table)) (ours .shaped) i h) ∙ getD-drop i t 0 0))
+      rw (told .left)
+      (rw q at (sym (getD-drop i (editedTable t e) 0 0) ∙ ap (λ (s : List ℕ). byte s 0) (replaced-behind t e (sound t (told .table)) (told .shaped) i h) ∙ getD-drop i t 0 0))

@@ -1,19 +1,22 @@
 -- What demand 3 speaks of: the accepted edits of a run, entries with edits put in, and the parts that a table is written
 -- afresh from.
-use Prim.Native.Nat.{ℕ}
-use mathlib.Core.Bool.{cond}
 use mathlib.Core.List.{List, [], _∷_}
+use Prim.Native.Nat.{ℕ}
 use lib.ListN.{set}
-use lib.Dec.{eqb}
 use Rattle.mps.specs.Words.{joined}
 use Rattle.mps.specs.Layout.{Entry, extendedPart}
 use Rattle.mps.specs.Writing.{Parts, fieldsOf}
-use Rattle.mps.specs.Edits.{Edit, editRefusal, editLeft}
+use Rattle.mps.specs.Edits.{Edit}
+use Rattle.mps.specs.declared.Edited.{Edited}
+use Rattle.mps.specs.declared.Edited.the-variants.{Done, Refused, Inner}
 
--- The accepted edits of a run, in order: an edit is accepted on what the ones before it left.
-unfoldable pub accepted : List ℕ → List Edit → List Edit
-accepted t [] = []
-accepted t (e ∷ es) = cond (eqb (editRefusal t e) 0) (e ∷ accepted (editLeft t e) es) (accepted (editLeft t e) es)
+-- The accepted edits of a run, in order: those that were answered as done.
+unfoldable pub accepted : List Edit → List Edited → List Edit
+accepted [] rs = []
+accepted (e ∷ es) [] = []
+accepted (e ∷ es) (Done ∷ rs) = e ∷ accepted es rs
+accepted (e ∷ es) (Refused n ∷ rs) = accepted es rs
+accepted (e ∷ es) (Inner n ∷ rs) = accepted es rs
 
 -- Entries with edits put in, in order.
 unfoldable pub putIn : List Entry → List Edit → List Entry

@@ -40,11 +40,14 @@ module _ (p : Parts) (room : List ℕ) where
           write-early 18
           (rw (le-ltb partMost (baseSize p) b, le-ltb partMost (length (p .extended)) x, lt-ltb (length room) (imageSize p) h))
 
+      pub write-none : imageSize p ≤ length room → earlyRefusal p room ≡ 0
+      unfolding earlyRefusal refusal
+      write-none h = rw (le-ltb partMost (baseSize p) b, le-ltb partMost (length (p .extended)) x, le-ltb (length room) (imageSize p) h)
+
       -- What is written, and judged there: it stays, or becomes 0.
       module _ (h : imageSize p ≤ length room) {n : ℕ} {v : List ℕ} (j : n ≡ tableRefusal (image p)) (w : v ≡ image p) where
         none : earlyRefusal p room ≡ 0
-        unfolding earlyRefusal refusal
-        none = rw (le-ltb partMost (baseSize p) b, le-ltb partMost (length (p .extended)) x, le-ltb (length room) (imageSize p) h)
+        none = write-none h
 
         pub write-done : n ≡ 0 → (Bytes (imageSize p) ≡ written p room) × (v ++ drop (imageSize p) room ≡ writeLeft p room)
         unfolding written writeRefusal writeLeft

@@ -1,34 +1,17 @@
 -- The header fields of any bytes. Assumes nothing.
-use Prim.Native.Nat.{ℕ, zero, suc, _-_, _≤_}
-use mathlib.Core.Path.{_≡_, refl, ap, _∙_}
+use Prim.Native.Nat.{ℕ, _-_, _≤_}
+use mathlib.Core.Path.{_≡_, _∙_}
 use mathlib.Core.List.{List, [], _∷_}
 use native.Mathlib.Omega.{arith}
-use lib.ListN.{length, getD, take, drop, set, replicate}
-use lib.Seq.{sets, getD-take, take-take}
+use lib.ListN.{length, getD, replicate}
+use lib.Seq.{sets, getD-take}
 use Rattle.mps.specs.Words.{exactly, part}
 use Rattle.mps.specs.Layout.{headerSize, oemPointer, oemSize, localApic}
 use Rattle.mps.specs.Writing.{fieldsOf}
-use Rattle.laws.proofs.Lists.{exactly-all}
-use Rattle.laws.proofs.Stores.{sets-past}
-use Rattle.laws.proofs.Parts.{length-part, drop-take}
+use Rattle.laws.proofs.Lists.{exactly-all, exactly-take}
+use Rattle.laws.proofs.Stores.{sets-zeros}
+use Rattle.laws.proofs.Parts.{length-part, part-take}
 use Rattle.numbers.proofs.Laws.{le-take}
-
--- ---- Bytes stored in zeros
-
-sets-cons : (x : ℕ) (s : List ℕ) (at : ℕ) (w : List ℕ) → sets (x ∷ s) (suc at) w ≡ x ∷ sets s at w
-sets-cons x s at [] = refl
-sets-cons x s at (y ∷ w) = sets-cons x (set s at y) (suc at) w
-
-exactly-none : (n : ℕ) → replicate n 0 ≡ exactly n []
-unfolding exactly
-exactly-none zero = refl
-exactly-none (suc n) = ap (λ (l : List ℕ). 0 ∷ l) (exactly-none n)
-
-pub sets-zeros : (n : ℕ) (w : List ℕ) → sets (replicate n 0) 0 w ≡ exactly n w
-unfolding exactly
-sets-zeros n [] = exactly-none n
-sets-zeros zero (x ∷ w) = sets-past [] 1 w (omega arith)
-sets-zeros (suc n) (x ∷ w) = sets-cons x (replicate n 0) 0 w ∙ ap (λ (l : List ℕ). x ∷ l) (sets-zeros n w)
 
 -- A part that is there as a whole, stored in as many zeros.
 part-zeros : (a b : ℕ) (t : List ℕ) → b ≤ length t → sets (replicate (b - a) 0) 0 (part a b t) ≡ part a b t
@@ -45,15 +28,6 @@ fields-are t oem product h o p a b c =
     rw (o, p, part-zeros 8 16 t (omega arith), part-zeros 16 28 t (omega arith), a, b, c)
 
 -- The fields of a table are those of its first 44 bytes.
-exactly-take : (n : ℕ) (s : List ℕ) → n ≤ length s → exactly n s ≡ take n s
-unfolding exactly
-exactly-take zero s h = refl
-exactly-take (suc n) [] h = absurd (omega arith)
-exactly-take (suc n) (x ∷ s) h = ap (λ (l : List ℕ). x ∷ l) (exactly-take n s (omega arith))
-
-part-take : (a b n : ℕ) (s : List ℕ) → b ≤ n → part a b (take n s) ≡ part a b s
-part-take a b n s h = rw (drop-take a n s) (take-take (b - a) (n - a) (drop a s) (omega arith))
-
 pub fields-inside : (t : List ℕ) → headerSize ≤ length t → fieldsOf (exactly headerSize t) ≡ fieldsOf t
 unfolding fieldsOf
 fields-inside t h =

@@ -10,14 +10,18 @@ use Rattle.mps.specs.Writing.{Parts, baseSize, imageSize}
 use Rattle.mps.specs.declared.Fields.{Fields}
 
 -- The parts that a call of the writer is given.
-abbrev pub partsOf : Fields → List ℕ → List ℕ → Parts
-partsOf fields base extended = record { fields = fields; base = base; extended = extended }
+abbrev pub partsGiven : Fields → List ℕ → List ℕ → Parts
+partsGiven fields base extended = record { fields = fields; base = base; extended = extended }
 
 -- The header up to the product,
 unfoldable pub front : Fields → ℕ → List ℕ
 unfolding text
 front fields size =
     text "PCMP" ++ (bytes 2 size ++ (specRevision ∷ 0 ∷ (exactly 8 (fields .oem) ++ exactly 12 (fields .product))))
+
+-- 28 bytes,
+abbrev pub frontSize : ℕ
+frontSize = 28
 
 -- and behind it.
 unfoldable pub rest : Fields → ℕ → ℕ → ℕ → List ℕ

@@ -19,11 +19,11 @@ ghost use Rattle.mps.specs.Layout.{headerSize, baseBytes};
 ghost use Rattle.mps.specs.Judge.{tableRefusal};
 ghost use Rattle.mps.specs.Writing.{image, fieldsOf, parted, written, writeLeft};
 ghost use Rattle.mps.specs.Edits.{sealed};
-ghost use Rattle.writer.specs.Laid.{partsOf, front, rest, Room};
+ghost use Rattle.writer.specs.Laid.{partsGiven, front, frontSize, rest, Room};
 
 pub fn write(fields: Fields, base: &[u8], extended: &[u8], room: &mut [u8]) -> Written
-    ensures { λ r. ⌜ r ≡ written (partsOf fields (now (base .entry)) (now (extended .entry))) (now (room .entry)) ⌝ }
-    ensures { λ _. ⌜ now (room .exit) ≡ writeLeft (partsOf fields (now (base .entry)) (now (extended .entry))) (now (room .entry)) ⌝ }
+    ensures { λ r. ⌜ r ≡ written (partsGiven fields (now (base .entry)) (now (extended .entry))) (now (room .entry)) ⌝ }
+    ensures { λ _. ⌜ now (room .exit) ≡ writeLeft (partsGiven fields (now (base .entry)) (now (extended .entry))) (now (room .entry)) ⌝ }
 {
     let base_size = layout::HEADER_SIZE + base.len();
     if layout::PART_MOST < base_size {
@@ -46,9 +46,9 @@ pub fn write(fields: Fields, base: &[u8], extended: &[u8], room: &mut [u8]) -> W
 
 // The image, and the number that it is refused with.
 fn lay_judged(fields: Fields, base: &[u8], extended: &[u8], out: &mut [u8]) -> u8
-    requires { ⌜ Room (partsOf fields (now base) (now extended)) (now out) ⌝ }
-    ensures { λ r. ⌜ r ≡ tableRefusal (image (partsOf fields (now (base .entry)) (now (extended .entry)))) ⌝ }
-    ensures { λ _. ⌜ now (out .exit) ≡ image (partsOf fields (now (base .entry)) (now (extended .entry))) ⌝ }
+    requires { ⌜ Room (partsGiven fields (now base) (now extended)) (now out) ⌝ }
+    ensures { λ r. ⌜ r ≡ tableRefusal (image (partsGiven fields (now (base .entry)) (now (extended .entry)))) ⌝ }
+    ensures { λ _. ⌜ now (out .exit) ≡ image (partsGiven fields (now (base .entry)) (now (extended .entry))) ⌝ }
 {
     lay(fields, base, extended, out);
     judge::refusal(out)
@@ -56,8 +56,8 @@ fn lay_judged(fields: Fields, base: &[u8], extended: &[u8], out: &mut [u8]) -> u
 
 // The image, in a room of its size.
 fn lay(fields: Fields, base: &[u8], extended: &[u8], out: &mut [u8])
-    requires { ⌜ Room (partsOf fields (now base) (now extended)) (now out) ⌝ }
-    ensures { λ _. ⌜ now (out .exit) ≡ image (partsOf fields (now (base .entry)) (now (extended .entry))) ⌝ }
+    requires { ⌜ Room (partsGiven fields (now base) (now extended)) (now out) ⌝ }
+    ensures { λ _. ⌜ now (out .exit) ≡ image (partsGiven fields (now (base .entry)) (now (extended .entry))) ⌝ }
 {
     let size = layout::HEADER_SIZE + base.len();
     put_front(out, fields, size as u16);
@@ -92,7 +92,7 @@ fn put_front(out: &mut [u8], fields: Fields, size: u16)
 // The header behind the product.
 fn put_rest(out: &mut [u8], fields: Fields, count: u16, size: u16, sum: u8)
     requires { ⌜ headerSize ≤ length (now out) ⌝ }
-    ensures { λ _. ⌜ now (out .exit) ≡ sets (now (out .entry)) 28 (rest fields count size sum) ⌝ }
+    ensures { λ _. ⌜ now (out .exit) ≡ sets (now (out .entry)) frontSize (rest fields count size sum) ⌝ }
 {
     numbers::put32(out, layout::OEM_POINTER, fields.pointer);
     numbers::put16(out, layout::OEM_SIZE, fields.size);

@@ -1,7 +1,7 @@
 -- The writer's answer, as one number: the texts are copied into zeros.
 use mathlib.Core.Path.{ap, _∙_}
 use borrow.Author.Needs.{needs}
-use Rattle.writer.proofs.Reading.{sets-zeros}
+use Rattle.laws.proofs.Stores.{sets-zeros}
 use Rattle.exports.specs.Codes.{writtenCode}
 use Rattle.exports.proofs.ruxtajma_write.Statement.{statement}
 use Rattle.exports.proofs.ruxtajma_write.Tie as tie

@@ -2,7 +2,7 @@ use mathlib.Core.Path.{ap, _∙_}
 use borrow.Author.Needs.{needs}
 use Rattle.mps.specs.Layout.{headerSize}
 use Rattle.mps.specs.Writing.{fieldsOf}
-use Rattle.writer.proofs.Reading.{sets-zeros}
+use Rattle.laws.proofs.Stores.{sets-zeros}
 use Rattle.writer.proofs.fields.Statement.{statement}
 use Rattle.writer.proofs.fields.Tie as tie
 

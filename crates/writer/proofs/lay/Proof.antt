@@ -2,7 +2,7 @@
 use native.Mathlib.Omega.{arith}
 use borrow.Author.Needs.{needs}
 use Rattle.entries.proofs.Laws.{count-most}
-use Rattle.writer.specs.Laid.{partsOf}
+use Rattle.writer.specs.Laid.{partsGiven}
 use Rattle.writer.proofs.Laying.{laid}
 use Rattle.writer.proofs.lay.Statement.{statement}
 use Rattle.writer.proofs.lay.Tie as tie
@@ -59,7 +59,7 @@ returns c =
     let s = n .before .before in
     let f = s .before .before .before .before in
     let a = f .before .before .before .before .before .args in
-    laid (partsOf (a .fields) (a .base .now) (a .extended .now)) (a .out .now) (f .before .before .before .before .before .pre)
+    laid (partsGiven (a .fields) (a .base .now) (a .extended .now)) (a .out .now) (f .before .before .before .before .before .pre)
     (n .count .ensures) (s .before .sum .ensures) (s .to-store .ensures)
     (f .put-front .ensures) (r .put-rest .ensures) (b .copy .ensures) (x .copy2 .ensures) (e .seal .ensures)
 

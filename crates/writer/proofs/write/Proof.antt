@@ -3,7 +3,7 @@ use mathlib.Core.Path.{sym}
 use lib.Seq.{length-take-le}
 use borrow.Author.Needs.{needs}
 use Rattle.mps.specs.Writing.{imageSize}
-use Rattle.writer.specs.Laid.{partsOf}
+use Rattle.writer.specs.Laid.{partsGiven}
 use Rattle.writer.proofs.Calls.{write-base, write-extended, write-room, write-done, write-refused}
 use Rattle.writer.proofs.write.Statement.{statement}
 use Rattle.writer.proofs.write.Tie as tie
@@ -14,12 +14,12 @@ add-base-size c = search needs
 returns : tie.Need-returns
 returns c =
     let a = c .before .before .before .before .args in
-    write-base (partsOf (a .fields) (a .base .now) (a .extended .now)) (a .room .now) (c .if1 .taken)
+    write-base (partsGiven (a .fields) (a .base .now) (a .extended .now)) (a .room .now) (c .if1 .taken)
 
 returns-2 : tie.Need-returns-2
 returns-2 c =
     let a = c .before .before .before .before .before .args in
-    write-extended (partsOf (a .fields) (a .base .now) (a .extended .now)) (a .room .now) (c .before .if1 .left) (c .if2 .taken)
+    write-extended (partsGiven (a .fields) (a .base .now) (a .extended .now)) (a .room .now) (c .before .if1 .left) (c .if2 .taken)
 
 add-size : tie.Need-add-size
 add-size c = search needs
@@ -27,7 +27,7 @@ add-size c = search needs
 returns-3 : tie.Need-returns-3
 returns-3 c =
     let a = c .before .before .before .before .before .before .args in
-    write-room (partsOf (a .fields) (a .base .now) (a .extended .now)) (a .room .now) (c .before .before .if1 .left) (c .before .if2 .left) (c .if3 .taken)
+    write-room (partsGiven (a .fields) (a .base .now) (a .extended .now)) (a .room .now) (c .before .before .if1 .left) (c .before .if2 .left) (c .if3 .taken)
 
 slice-relend-prefix-lay-judged : tie.Need-slice-relend-prefix-lay-judged
 slice-relend-prefix-lay-judged c = search needs
@@ -35,7 +35,7 @@ slice-relend-prefix-lay-judged c = search needs
 slice-aggregate-lay-judged : tie.Need-slice-aggregate-lay-judged
 slice-aggregate-lay-judged c =
     let a = c .before .before .before .before .before .before .before .args in
-    sym (length-take-le (imageSize (partsOf (a .fields) (a .base .now) (a .extended .now))) (a .room .now) (c .before .if3 .left))
+    sym (length-take-le (imageSize (partsGiven (a .fields) (a .base .now) (a .extended .now))) (a .room .now) (c .before .if3 .left))
 
 lay-judged-requires : tie.Need-lay-judged-requires
 lay-judged-requires c κs =
@@ -49,7 +49,7 @@ returns-4 c =
     let l = c .before .before .before in
     let k = l .before .before in
     let a = k .before .before .before .before .before .before .args in
-    write-done (partsOf (a .fields) (a .base .now) (a .extended .now)) (a .room .now) (k .before .before .if1 .left) (k .before .if2 .left) (k .if3 .left)
+    write-done (partsGiven (a .fields) (a .base .now) (a .extended .now)) (a .room .now) (k .before .before .if1 .left) (k .before .if2 .left) (k .if3 .left)
     (l .lay-judged .ensures .0) (l .lay-judged .ensures .1) (c .if4 .taken)
 
 clear-requires : tie.Need-clear-requires
@@ -64,7 +64,7 @@ returns-5 c =
     let l = i .before .before .before in
     let k = l .before .before in
     let a = k .before .before .before .before .before .before .args in
-    write-refused (partsOf (a .fields) (a .base .now) (a .extended .now)) (a .room .now) (k .before .before .if1 .left) (k .before .if2 .left) (k .if3 .left)
+    write-refused (partsGiven (a .fields) (a .base .now) (a .extended .now)) (a .room .now) (k .before .before .if1 .left) (k .before .if2 .left) (k .if3 .left)
     (l .lay-judged .ensures .0) (l .lay-judged .ensures .1) (i .if4 .left) (c .before .before .clear .ensures)
 
 pub write-spec : {M : Type 1} → statement M
