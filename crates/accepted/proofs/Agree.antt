@@ -13,6 +13,7 @@ use Rattle.mps.specs.Writing.{fieldsOf, partsOf}
 use Rattle.mps.specs.Judge.{tableRules, tableRefusal}
 use Rattle.laws.proofs.Parts.{alike-take, alike-byte, alike-part}
 use Rattle.numbers.proofs.Laws.{alike-le}
+use Rattle.accepted.proofs.Fields.{fields-by}
 use Rattle.accepted.proofs.Sound.{Sound, sound-rest}
 
 -- Two buffers that begin with the same table.
@@ -80,18 +81,8 @@ module _ (t u : List ℕ) (s : Sound t) (long : extendedEnd t ≤ length u) (sam
   pub agree-refusal : tableRefusal u ≡ tableRefusal t
   agree-refusal = sound-rest u agree-sound ∙ rest ∙ sym (sound-rest t s)
 
-  pub agree-fields : fieldsOf u ≡ fieldsOf t
-  unfolding fieldsOf
-  agree-fields =
-      let h = header-inside in
-      rw (
-        agree-part 8 16 (omega arith),
-        agree-part 16 28 (omega arith),
-        agree-le 4 28 (omega arith),
-        agree-le 2 32 (omega arith),
-        agree-le 4 36 (omega arith),
-        agree-byte 43 (omega arith),
-      )
+  agree-fields : fieldsOf u ≡ fieldsOf t
+  agree-fields = fields-by t u (agree-part 8 headerSize header-inside)
 
   pub agree-parts : partsOf u ≡ partsOf t
   unfolding partsOf

@@ -1,4 +1,5 @@
 pub mod Walk
+pub mod Fields
 pub mod Sound
 pub mod Pieces
 pub mod Stands

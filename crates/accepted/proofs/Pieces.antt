@@ -149,10 +149,7 @@ module _ (len : List ℕ → ℕ) (told : Told len) where
   pub joined-cut : (s : List ℕ) → asOne (cut len 0 s) ≡ s
   joined-cut s = laid-joined (laid s)
 
-  -- Where piece k stands, and that it lies in the list.
-  pub piece-before : (s : List ℕ) (k : ℕ) → k < length (cut len 0 s) → before k (cut len 0 s) < length s
-  piece-before s k h = laid-before (laid s) k h
-
+  -- Where piece k stands.
   pub piece-is : (s : List ℕ) (k : ℕ) → k < length (cut len 0 s)
       → let at = before k (cut len 0 s) in getD (cut len 0 s) k [] ≡ take (len (drop at s)) (drop at s)
   piece-is s k h = laid-is (laid s) k h

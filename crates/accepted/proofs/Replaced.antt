@@ -1,7 +1,7 @@
 -- A sound table in which one entry has been replaced by one of its length and type: what stays, and what does not. Assumes
 -- nothing.
 use Prim.Native.Nat.{ℕ, zero, suc, _+_, _≤_, _<_}
-use mathlib.Core.Path.{_≡_, refl, ap, sym, _∙_}
+use mathlib.Core.Path.{_≡_, refl, _∙_}
 use mathlib.Core.List.{List, [], _∷_}
 use native.Mathlib.Omega.{arith}
 use lib.ListN.{length, getD, drop, set, length-set}
@@ -16,8 +16,9 @@ use Rattle.mps.specs.Edits.{Edit, standing, before, offsetOf, editedTable}
 use Rattle.laws.proofs.Small.{Bytes, bytes-sets}
 use Rattle.laws.proofs.Stores.{sets-take, sets-drop, sets-byte, sets-part, part-sets}
 use Rattle.numbers.proofs.Laws.{le-before}
+use Rattle.accepted.proofs.Fields.{fields-by}
 use Rattle.accepted.proofs.Sound.{Sound}
-use Rattle.accepted.proofs.Pieces.{asOne, joined-cut, piece-set, base-told, walked-whole}
+use Rattle.accepted.proofs.Pieces.{piece-set, base-told, walked-whole}
 use Rattle.accepted.proofs.Stands.{Stands, stands}
 use Rattle.accepted.proofs.Shaped.{Shaped}
 use Rattle.accepted.proofs.Sealed.{sealed-length, sealed-byte, sealed-take, sealed-drop, sealed-part, sealed-le, sealed-base, sealed-sum, sealed-bytes}
@@ -85,16 +86,7 @@ module _ (t : List ℕ) (e : Edit) (s : Sound t) (h : Shaped t e) where
   replaced-count = header-le 2 34 (omega arith) (omega arith)
 
   pub replaced-fields : fieldsOf (editedTable t e) ≡ fieldsOf t
-  unfolding fieldsOf
-  replaced-fields =
-      rw (
-        header-part 8 16 (omega arith) (omega arith),
-        header-part 16 28 (omega arith) (omega arith),
-        header-le 4 28 (omega arith) (omega arith),
-        header-le 2 32 (omega arith) (omega arith),
-        header-le 4 36 (omega arith) (omega arith),
-        header-byte 43 (λ n. omega arith) (omega arith),
-      )
+  replaced-fields = fields-by t (editedTable t e) (header-part 8 headerSize (omega arith) (omega arith))
 
   pub replaced-extended : extendedPart (editedTable t e) ≡ extendedPart t
   replaced-extended = rw (replaced-base, replaced-extended-length, replaced-behind (baseLength t) (there .inside))

@@ -14,7 +14,8 @@ use Rattle.mps.specs.declared.Edited.the-variants.{Done, Refused as Edited·Ref
 abbrev pub highHalf : ℕ
 highHalf = 2 ^ 32
 
--- The refusal's number in the high half, what is answered in the low one.
+-- The refusal's number in the high half, what is answered in the low one. A count fits there: a listing has at most 65,536
+-- bytes (crate listing, listing-most), a written table 8,192 (crate promises, written-most).
 unfoldable pub writtenCode : Written → ℕ
 writtenCode (Bytes count) = count
 writtenCode (Refused n) = n * highHalf

@@ -11,12 +11,13 @@ use lib.Seq.{length-take-le, take-take, take-append-le}
 use lib.Dec.{ltb}
 use borrow.Author.Tests.{ltb-false}
 use Rattle.mps.specs.Words.{exactly, part, put}
-use Rattle.mps.specs.Answers.{partedOf}
+use Rattle.mps.specs.Answers.{writtenOf, partedOf}
 use Rattle.mps.specs.Refusals.{baseNumber, extendedNumber, roomNumber}
 use Rattle.mps.specs.Layout.{partMost, headerSize, baseLength, extendedEnd, basePart, extendedPart}
 use Rattle.mps.specs.Judge.{tableRefusal}
 use Rattle.mps.specs.Writing.{Parts, partsOf, fieldsOf, parted, image, imageSize, baseSize, earlyRefusal, writeRefusal, written, writeLeft}
-use Rattle.mps.specs.declared.Written.the-variants.{Bytes as Written·Bytes}
+use Rattle.mps.specs.declared.Written.{Written}
+use Rattle.mps.specs.declared.Written.the-variants.{Bytes as Written·Bytes, Refused as Written·Refused}
 use Rattle.mps.specs.declared.Parted.{Parted}
 use Rattle.mps.specs.declared.Parted.the-variants.{Parts as Parted·Parts, Refused as Parted·Refused}
 use Rattle.laws.proofs.Lists.{exactly-all}
@@ -187,3 +188,25 @@ module _ (p : Parts) (room : List ℕ) (proper : Proper p) (a : writeRefusal p r
   read-fields =
       fields-inside (writeLeft p room) (sound (writeLeft p room) read-accepted .long)
       ∙ ap (λ (q : Parts). q .fields) read-again
+
+-- ---- A table that is written has at most 8,192 bytes: its count fits the low half of a code for C
+
+isBytes : Written → Bool
+isBytes (Written·Bytes n) = true
+isBytes (Written·Refused n) = false
+
+bytesOf : Written → ℕ
+bytesOf (Written·Bytes n) = n
+bytesOf (Written·Refused n) = 0
+
+bytes-told : (k size n : ℕ) → writtenOf k size ≡ Written·Bytes n → (k ≡ 0) × (size ≡ n)
+unfolding isBytes bytesOf
+bytes-told zero size n e = (refl, ap bytesOf e)
+bytes-told (suc k) size n e = absurd (true≢false (sym (ap isBytes e)))
+
+pub written-most : (p : Parts) (room : List ℕ) (n : ℕ) → written p room ≡ Written·Bytes n → n ≤ 8192
+unfolding written writeRefusal
+written-most p room n e =
+    let k = bytes-told (writeRefusal p room) (imageSize p) n e in
+    let f = early-fits p room (first-none (earlyRefusal p room) (tableRefusal (image p)) (k .0) .0) in
+    omega (arith, f .base, f .extended, k .1)

@@ -3,15 +3,15 @@ use Prim.Native.Nat.{ℕ, _-_, _≤_}
 use mathlib.Core.Path.{_≡_, _∙_}
 use mathlib.Core.List.{List, [], _∷_}
 use native.Mathlib.Omega.{arith}
-use lib.ListN.{length, getD, replicate}
-use lib.Seq.{sets, getD-take}
+use lib.ListN.{length, getD, take, replicate}
+use lib.Seq.{sets}
 use Rattle.mps.specs.Words.{exactly, part}
 use Rattle.mps.specs.Layout.{headerSize, oemPointer, oemSize, localApic}
 use Rattle.mps.specs.Writing.{fieldsOf}
 use Rattle.laws.proofs.Lists.{exactly-all, exactly-take}
 use Rattle.laws.proofs.Stores.{sets-zeros}
 use Rattle.laws.proofs.Parts.{length-part, part-take}
-use Rattle.numbers.proofs.Laws.{le-take}
+use Rattle.accepted.proofs.Fields.{fields-by}
 
 -- A part that is there as a whole, stored in as many zeros.
 part-zeros : (a b : ℕ) (t : List ℕ) → b ≤ length t → sets (replicate (b - a) 0) 0 (part a b t) ≡ part a b t
@@ -29,14 +29,5 @@ fields-are t oem product h o p a b c =
 
 -- The fields of a table are those of its first 44 bytes.
 pub fields-inside : (t : List ℕ) → headerSize ≤ length t → fieldsOf (exactly headerSize t) ≡ fieldsOf t
-unfolding fieldsOf
 fields-inside t h =
-    rw (
-      exactly-take headerSize t h,
-      part-take 8 16 headerSize t (omega arith),
-      part-take 16 28 headerSize t (omega arith),
-      le-take 4 headerSize t 28 (omega arith),
-      le-take 2 headerSize t 32 (omega arith),
-      le-take 4 headerSize t 36 (omega arith),
-      getD-take headerSize t 43 0 (omega arith),
-    )
+    rw (exactly-take headerSize t h) (fields-by t (take headerSize t) (part-take 8 headerSize headerSize t (omega arith)))
