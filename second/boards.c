@@ -48,10 +48,11 @@ static void mappings(struct builder *b, uint32_t n, uint32_t n_bus)
                     (uint64_t)i << 24, 1u << (12 + i % 12));
 }
 
-static void links(struct builder *b, uint32_t n_bus, bool chain)
+/* Every other bus subtractive, or all of them. */
+static void links(struct builder *b, uint32_t n_bus, bool chain, bool all)
 {
     for (uint32_t i = n_bus - 1; i > 0; i--)
-        add_link(b, (uint8_t)i, i & 1, (uint8_t)(chain ? i - 1 : i / 2));
+        add_link(b, (uint8_t)i, all || i & 1, (uint8_t)(chain ? i - 1 : i / 2));
 }
 
 static void modifiers(struct builder *b, uint32_t n, uint32_t n_bus)
@@ -87,7 +88,7 @@ void make_mixed(struct builder *b, size_t goal, uint32_t part)
     io_apics(b, 16, 8 / part);
     interrupts(b, goal, 32 / part, 16, 8 / part, 16 / part);
     mappings(b, 150 / part, 32 / part);
-    links(b, 32 / part, false);
+    links(b, 32 / part, false, false);
     modifiers(b, 20 / part, 32 / part);
     unknowns(b, goal, 16);
 }
@@ -113,7 +114,7 @@ void make_processors(struct builder *b, size_t goal, uint32_t part)
     mostly_mappings(b, goal, 1);
 }
 
-void make_chain(struct builder *b, size_t goal, uint32_t part)
+static void chain(struct builder *b, size_t goal, uint32_t part, bool subtractive)
 {
     uint32_t n = 256 / part;
 
@@ -122,8 +123,18 @@ void make_chain(struct builder *b, size_t goal, uint32_t part)
     io_apics(b, 1, 1);
     interrupts(b, goal, n, 1, 1, 1);
     mappings(b, 100 / part, n);
-    links(b, n, true);
+    links(b, n, true, subtractive);
     modifiers(b, (uint32_t)((goal - b->ext_len) / 8), n);
+}
+
+void make_chain(struct builder *b, size_t goal, uint32_t part)
+{
+    chain(b, goal, part, false);
+}
+
+void make_climb(struct builder *b, size_t goal, uint32_t part)
+{
+    chain(b, goal, part, true);
 }
 
 void make_io_apics(struct builder *b, size_t goal, uint32_t part)
@@ -147,6 +158,31 @@ void make_unknowns(struct builder *b, size_t goal, uint32_t part)
     unknowns(b, goal, 2);
 }
 
+/* Half of the base I/O APICs, half interrupts of one source to all of them. */
+static void one_source(struct builder *b, size_t goal, uint32_t part, uint32_t on)
+{
+    uint32_t n = 250 / part;
+
+    processors(b, 1, 0);
+    buses(b, 1);
+    io_apics(b, 1, on);
+    for (uint32_t i = on; i < n; i++)
+        add_io_apic(b, (uint8_t)(1 + i), 0, 0);
+    while (base_left(b, goal) > 0)
+        add_interrupt(b, 3, 0, 0, 0, 1, 255, (uint8_t)b->count);
+    mostly_mappings(b, goal, 1);
+}
+
+void make_few_targets(struct builder *b, size_t goal, uint32_t part)
+{
+    one_source(b, goal, part, 2);
+}
+
+void make_many_targets(struct builder *b, size_t goal, uint32_t part)
+{
+    one_source(b, goal, part, 250 / part);
+}
+
 void make_typical(struct builder *b)
 {
     processors(b, 4, 0);
@@ -154,7 +190,7 @@ void make_typical(struct builder *b)
     io_apics(b, 4, 2);
     interrupts(b, HEADER + b->base_len + 8 * 24, 4, 4, 2, 4);
     mappings(b, 4, 4);
-    links(b, 3, false);
+    links(b, 3, false, false);
     modifiers(b, 2, 4);
 }
 

@@ -12,6 +12,12 @@ typedef void make_board(struct builder *b, size_t goal, uint32_t part);
 make_board make_mixed, make_interrupts, make_processors, make_chain,
            make_io_apics, make_unknowns;
 
+/*
+ * The same, to be asked: 253 interrupts of one source to all of 250 I/O APICs, of
+ * which two are on, or all; and a chain of buses that are all subtractive.
+ */
+make_board make_few_targets, make_many_targets, make_climb;
+
 /* Some 40 entries, as boards of the day have. */
 void make_typical(struct builder *b);
 

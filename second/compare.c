@@ -1,8 +1,8 @@
 /*
  * compare COUNT SEED [-v]: judges tables, lists dumps, writes tables from their
- * parts and edits tables by the plain program and by the library: fixed cases,
- * single faults, and COUNT generated ones of each.  What is lent touches an
- * unreadable page.  Exit 1 on any difference (the case goes to
+ * parts, edits tables and asks them by the plain program and by the library:
+ * fixed cases, single faults, and COUNT generated ones of each.  What is lent
+ * touches an unreadable page.  Exit 1 on any difference (the case goes to
  * compare-failed.hex), on bytes changed that may not be, or if an answer was
  * reached in fewer than COUNT / 1,000 cases.
  */
@@ -174,6 +174,53 @@ static void edits(struct rng *r, number count, const char *seed)
         report(k, t.inner[k], count);
 }
 
+/* One line of how often each of five classes was reached. */
+static void report_classes(const char *what, const char *const name[5],
+                           const number reached[5], number count)
+{
+    printf("%s:", what);
+    for (int k = 0; k < 5; k++) {
+        printf(" %s: %llu%s", name[k], reached[k], k < 4 ? "," : "\n");
+        require(what, reached[k], count / 1000);
+    }
+}
+
+static void report_numbers(const number answered[25], number count)
+{
+    for (int k = 5; k <= 18; k++)
+        report(k, answered[k], count);
+    report(24, answered[24], count);
+}
+
+static void queries(struct rng *r, number count, const char *seed)
+{
+    static const char *const pairs[5] = { "0", "1", "2-10", "11-255", "more" };
+    static const char *const links[5] = { "0", "1", "2-10", "11-254", "255" };
+    struct query_tally before = { 0 }, t = { 0 };
+
+    fixed_queries(r, &before);
+    while (t.tables < count) {
+        gen_asked(r, &the_case);
+        compare_queries(r, &the_case, &t);
+    }
+    printf("queries: %llu fixed, %llu generated about %llu tables, seed %s: no "
+           "difference\n", before.routes + before.addresses,
+           t.routes + t.addresses, t.tables, seed);
+    printf("routes, %llu questions:\n  0: %llu\n", t.routes, t.route_answered[0]);
+    require("routes", t.route_answered[0], count / 3);
+    report_numbers(t.route_answered, count);
+    report(19, t.too_small, count);
+    printf("rooms: %llu; 19 counts rooms, the others questions\n", t.rooms);
+    report_classes("pairs", pairs, t.pairs, count);
+
+    printf("addresses, %llu questions:\n  0: %llu no, %llu yes, %llu undeclared\n",
+           t.addresses, t.values[0], t.values[1], t.values[2]);
+    for (int k = 0; k < 3; k++)
+        require("no, yes or undeclared", t.values[k], count / 10);
+    report_numbers(t.address_answered, count);
+    report_classes("links", links, t.links, count);
+}
+
 int main(int argc, char **argv)
 {
     if (argc < 3) {
@@ -190,5 +237,6 @@ int main(int argc, char **argv)
     dumps(&r, count, argv[2]);
     writes(&r, count, argv[2]);
     edits(&r, count, argv[2]);
+    queries(&r, count, argv[2]);
     return enough ? 0 : 1;
 }

@@ -5,6 +5,7 @@
 #include "dumps.h"
 #include "edits.h"
 #include "parts.h"
+#include "queries.h"
 #include "random.h"
 
 /* Judges one table by both; answers the number both agree on. */
@@ -66,5 +67,32 @@ void compare_mending(struct rng *r, struct edit_tally *t);
 
 /* The paper's own edits, every byte and length on the bench board, and others. */
 void fixed_edits(struct rng *r, struct edit_tally *t);
+
+/* How the queries of a run ended. */
+struct query_tally {
+    unsigned long long tables, routes, addresses;
+    unsigned long long route_answered[25];     /* queries, by number */
+    unsigned long long pairs[5];               /* 0, 1, up to 10, to 255, more */
+    unsigned long long rooms;                  /* calls, each by both */
+    unsigned long long too_small;              /* of these: 19 */
+    unsigned long long address_answered[25];   /* queries, by number */
+    unsigned long long values[3];              /* no, yes, undeclared */
+    unsigned long long links[5];               /* 0, 1, up to 10, to 254, 255 */
+};
+
+/* Lends a table to both; the questions that follow are about it. */
+struct asked *ask_table(struct rng *r, const struct test_case *c);
+
+/* One question to both; routes in rooms of several sizes. */
+void compare_routes(struct rng *r, const struct route_query *q,
+                    struct query_tally *t);
+void compare_address(const struct address_query *q, struct query_tally *t);
+
+/* Questions of both kinds about a table of any kind. */
+void compare_queries(struct rng *r, const struct test_case *c,
+                     struct query_tally *t);
+
+/* The bench board, every address of both lists, long climbs, and others. */
+void fixed_queries(struct rng *r, struct query_tally *t);
 
 #endif

@@ -13,6 +13,11 @@ void list_add(struct list *l, uint8_t id)
     l->has[id] = true;
 }
 
+uint8_t list_pick(struct rng *r, const struct list *l)
+{
+    return l->id[rng_below(r, l->n)];
+}
+
 size_t entry_size(const uint8_t *part, size_t len, size_t at, bool ext)
 {
     size_t size;
@@ -24,26 +29,38 @@ size_t entry_size(const uint8_t *part, size_t len, size_t at, bool ext)
     return size <= len - at ? size : 0;
 }
 
+uint8_t *next_of(struct builder *b, uint8_t type, const uint8_t *behind)
+{
+    bool ext = type >= 128;
+    uint8_t *part = ext ? b->ext : b->base;
+    size_t len = ext ? b->ext_len : b->base_len;
+    size_t at = 0, size = 0;
+
+    if (behind != NULL) {
+        at = (size_t)(behind - part);
+        size = entry_size(part, len, at, ext);
+    }
+    for (at += size; at < len; at += size) {
+        size = entry_size(part, len, at, ext);
+        if (size < 2)
+            break;
+        if (part[at] == type && size >= (type == 128 || type == 0 ? 20u : 8u))
+            return part + at;
+    }
+    return NULL;
+}
+
 bool any(const uint8_t *e) { (void)e; return true; }
 
 uint8_t *pick_other(struct rng *r, struct builder *b, uint8_t type,
                     want *suits, const uint8_t *not_this)
 {
-    bool ext = type >= 128;
-    uint8_t *part = ext ? b->ext : b->base;
-    size_t len = ext ? b->ext_len : b->base_len;
     uint8_t *found = NULL;
     uint32_t n = 0;
 
-    for (size_t at = 0, size; at < len; at += size) {
-        size = entry_size(part, len, at, ext);
-        if (size < 2)
-            break;
-        if (part[at] == type && size >= (type == 128 || type == 0 ? 20u : 8u)
-            && part + at != not_this && suits(part + at)
-            && rng_below(r, ++n) == 0)
-            found = part + at;
-    }
+    EACH(b, type, e)
+        if (e != not_this && suits(e) && rng_below(r, ++n) == 0)
+            found = e;
     return found;
 }
 

@@ -18,6 +18,9 @@ bool any(const uint8_t *e);
 
 void list_add(struct list *l, uint8_t id);
 
+/* One of them; the list is not empty. */
+uint8_t list_pick(struct rng *r, const struct list *l);
+
 /* The IDs of the base entries of a type that suit. */
 void list_of(struct builder *b, uint8_t type, want *suits, struct list *l);
 
@@ -27,6 +30,12 @@ bool unlisted(struct rng *r, struct builder *b, uint8_t type, bool with_255,
 
 /* The size of the entry that starts there; 0 if it has none or is cut. */
 size_t entry_size(const uint8_t *part, size_t len, size_t at, bool ext);
+
+/* The first entry of a type, or the next one behind another; or NULL. */
+uint8_t *next_of(struct builder *b, uint8_t type, const uint8_t *behind);
+
+#define EACH(b, type, e) \
+    for (uint8_t *e = next_of(b, type, NULL); e != NULL; e = next_of(b, type, e))
 
 /* A random entry of a type that suits; or NULL. */
 uint8_t *pick(struct rng *r, struct builder *b, uint8_t type, want *suits);

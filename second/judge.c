@@ -1,7 +1,7 @@
 /* The plain table judge.  Each rule quotes its row of document 01. */
 #include "judge.h"
+#include "set.h"
 
-#include <stdbool.h>
 #include <string.h>
 
 static const uint8_t base_size[BASE_TYPES] = { 20, 8, 8, 8, 8 };
@@ -13,11 +13,6 @@ static const char bus_names[18][6] = {
     "PCI   ", "PCMCIA", "TC    ", "VL    ", "VME   ", "XPRESS",
 };
 
-/* A set of IDs. */
-struct set {
-    uint64_t word[4];
-};
-
 /* The IDs that later rules look up, gathered by rules 14 to 16. */
 struct ids {
     struct set processors;           /* enabled or not */
@@ -25,16 +20,6 @@ struct ids {
     struct set buses;
     struct set io_apics;             /* enabled or not */
 };
-
-static bool in(const struct set *s, uint8_t id)
-{
-    return s->word[id >> 6] >> (id & 63) & 1;
-}
-
-static void add(struct set *s, uint8_t id)
-{
-    s->word[id >> 6] |= (uint64_t)1 << (id & 63);
-}
 
 /* Rules 5 to 9: the header, and the base part as a whole. */
 static uint8_t judge_header(const uint8_t *t, size_t n)

@@ -36,4 +36,20 @@ uint32_t ruxtajma_edit(uint8_t *table, size_t length, size_t place,
                        const uint8_t *stated, size_t stated_length,
                        const uint8_t *wanted, size_t wanted_length);
 
+/*
+ * As plain_io_routes() and plain_local_routes() of query.h.  High 32 bits: the
+ * refusal's number, 0 where there is none; low 32 bits: how many pairs stand in
+ * the room.
+ */
+uint64_t ruxtajma_io_routes(const uint8_t *table, size_t length, uint8_t itype,
+                            uint8_t bus, uint8_t irq, uint8_t *room,
+                            size_t room_length);
+uint64_t ruxtajma_local_routes(const uint8_t *table, size_t length,
+                               uint8_t itype, uint8_t bus, uint8_t irq,
+                               uint8_t *room, size_t room_length);
+
+/* As plain_address() of query.h. */
+uint32_t ruxtajma_address(const uint8_t *table, size_t length, uint8_t bus,
+                          uint8_t kind, uint64_t address);
+
 #endif

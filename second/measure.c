@@ -1,7 +1,7 @@
 /*
  * measure [ROUNDS]: ns per call of the plain program (-O2 and -O3) and of the
- * library, judging, listing, editing and writing, all in one process, the three
- * taking turns.
+ * library, judging, listing, editing, writing and asked, all in one process, the
+ * three taking turns.
  */
 #define _GNU_SOURCE
 
@@ -87,13 +87,18 @@ static const struct {
     [EDIT_LAST] = { "an edit at the last place", "table", "place", "edit last" },
     [EDIT_REFUSED] = { "an edit there, refused with 23", "table", "place", "edit 23" },
     [WRITE] = { "writing tables", "table", "made", "write" },
+    [ROUTES] = { "I/O routes", "table", "pairs", "routes" },
+    [ADDRESS] = { "an address on a bus", "table", "links", "address" },
 };
 
 /* What stands in the third column. */
 static unsigned shown(const struct subject *s)
 {
-    return s->work == LIST || s->work == WRITE ? (unsigned)(uint32_t)s->answer
-                                               : (unsigned)s->place;
+    switch (s->work) {
+    case LIST: case WRITE: case ROUTES: return (unsigned)(uint32_t)s->answer;
+    case ADDRESS: return (unsigned)(s->answer >> 16);
+    default: return (unsigned)s->place;
+    }
 }
 
 static void print_against(enum work work, int plain, const char *flags)

@@ -1,11 +1,11 @@
 #!/usr/bin/env python3
-"""Tests compare itself: each mutant of judge.c, dump.c, list.c, write.c or edit.c
-stands in for the library and must be found.  mutants.py [COUNT [SOURCE...]], as
-in "mutants.py 20000 write edit"; exit 1 if one survives."""
+"""Tests compare itself: each mutant of judge.c, dump.c, list.c, write.c, edit.c or
+query.c stands in for the library and must be found.  mutants.py [COUNT [SOURCE...]],
+as in "mutants.py 20000 write edit"; exit 1 if one survives."""
 import os, subprocess, sys, tempfile
 
 sys.dont_write_bytecode = True   # nothing is left beside the sources
-import mutants_edits, mutants_listing
+import mutants_edits, mutants_listing, mutants_query
 
 HERE = os.path.dirname(os.path.abspath(__file__))
 COUNT = sys.argv[1] if len(sys.argv) > 1 else "20000"
@@ -136,16 +136,19 @@ JUDGE = [
 # Equal to the original: the next entry would start at the length byte, and its
 # value 1 is a type under 128, or one byte is left; 13 either way.  And a dump
 # that lacks its last byte does not end with the last body; 1 either way.
-EQUAL = {(13, "length 1 allowed"), (1, "body cut by one")}
+EQUAL = {(13, "length 1 allowed"), (1, "body cut by one")} | mutants_query.EQUAL
 
 SOURCES = {"judge": JUDGE, "dump": mutants_listing.DUMP, "list": mutants_listing.LIST,
-           "write": mutants_edits.WRITE, "edit": mutants_edits.EDIT, "names": mutants_edits.NAMES}
+           "write": mutants_edits.WRITE, "edit": mutants_edits.EDIT, "names": mutants_edits.NAMES,
+           "query": mutants_query.QUERY}
 PROGRAMS = {"measure", "subjects", "boards", "list_program"}   # not part of compare
 
 # The stand-in is the plain program once more, under the library's names.
 RENAMED = ["-Dplain_judge=ruxtajma_judge", "-Dplain_list=ruxtajma_list", "-Dplain_edit=ruxtajma_edit",
            "-Dplain_judge_walk=mutant_judge_walk", "-Dplain_find=mutant_find",
-           "-Dplain_write=mutant_write", "-Dplain_parts=mutant_parts"]
+           "-Dplain_write=mutant_write", "-Dplain_parts=mutant_parts",
+           "-Dplain_io_routes=ruxtajma_io_routes", "-Dplain_local_routes=ruxtajma_local_routes",
+           "-Dplain_address=ruxtajma_address"]
 
 def text_of(name):
     """The source of a part of the stand-in; "names" is one that it has alone."""

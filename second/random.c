@@ -60,3 +60,12 @@ void rng_alter(struct rng *r, uint8_t *p)
 {
     *p ^= (uint8_t)rng_range(r, 1, 255);
 }
+
+void rng_shuffled(struct rng *r, uint8_t id[256])
+{
+    for (uint32_t i = 0; i < 256; i++) {
+        uint32_t j = rng_below(r, i + 1);
+        id[i] = id[j];
+        id[j] = (uint8_t)i;
+    }
+}

@@ -31,4 +31,7 @@ uint32_t rng_few(struct rng *r, uint32_t max);
 /* Gives a byte another value. */
 void rng_alter(struct rng *r, uint8_t *p);
 
+/* The numbers 0 to 255 in any order. */
+void rng_shuffled(struct rng *r, uint8_t id[256]);
+
 #endif

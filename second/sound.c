@@ -7,20 +7,6 @@
 
 #include <string.h>
 
-static uint8_t list_pick(struct rng *r, const struct list *l)
-{
-    return l->id[rng_below(r, l->n)];
-}
-
-static void shuffled(struct rng *r, uint8_t id[256])
-{
-    for (uint32_t i = 0; i < 256; i++) {
-        uint32_t j = rng_below(r, i + 1);
-        id[i] = id[j];
-        id[j] = (uint8_t)i;
-    }
-}
-
 /* Flags with random reserved bits. */
 static uint8_t loose(struct rng *r, uint8_t bits, uint8_t mask)
 {
@@ -51,7 +37,7 @@ static void sound_processors(struct rng *r, struct builder *b, struct sketch *s,
         n--;
     if (on > n)
         on = n, boot = rng_below(r, on);
-    shuffled(r, id);
+    rng_shuffled(r, id);
     for (uint32_t i = 0; i < n; i++) {
         uint8_t one;
 
@@ -85,7 +71,7 @@ static void sound_buses(struct rng *r, struct builder *b, struct sketch *s,
         n = 1;
     if (most >= 256 && rng_chance(r, 5))
         n = 256;
-    shuffled(r, id);
+    rng_shuffled(r, id);
     for (uint32_t i = 0; i < n && base_left(b, goal) >= 8; i++) {
         add_bus(b, id[i], bus_names[rng_below(r, 18)]);
         list_add(&s->buses, id[i]);
@@ -100,7 +86,7 @@ static void sound_io_apics(struct rng *r, struct builder *b, struct sketch *s,
     uint32_t n = rng_few(r, most < 255 ? most : 255);
     uint32_t next = 0;
 
-    shuffled(r, id);
+    rng_shuffled(r, id);
     for (uint32_t i = 0; i < n && base_left(b, goal) >= 8; i++) {
         uint8_t one, flags;
         uint32_t address;
@@ -186,7 +172,7 @@ static void sound_links(struct rng *r, struct builder *b, const struct list *bus
         pair[n++][1] = id[chain ? i - 1 : rng_below(r, i)];
     }
     bool mixed = rng_chance(r, 60), rising = rng_chance(r, 50);
-    shuffled(r, order);
+    rng_shuffled(r, order);
     for (uint32_t i = 0; i < 256 && ext_left(b, goal) >= 8; i++) {
         uint32_t k = mixed ? order[i] : rising ? i : 255 - i;
         if (k < n)

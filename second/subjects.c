@@ -6,6 +6,7 @@
 #include "judge.h"
 #include "library.h"
 #include "list.h"
+#include "query.h"
 
 #include <stdio.h>
 #include <stdlib.h>
@@ -14,14 +15,16 @@
 struct subject subjects[SUBJECTS_MAX];
 size_t subject_count;
 
-static uint8_t room[65536];
+static uint8_t room[1 << 17];
 static struct builder b;
 
-static const struct {
+struct kind {
     const char *name;
     make_board *make;
     bool often;   /* listed, edited and written too */
-} kinds[] = {
+};
+
+static const struct kind kinds[] = {
     { "a mixed", make_mixed, true },
     { "b interrupts+mappings", make_interrupts, true },
     { "c processors", make_processors, false },
@@ -30,7 +33,18 @@ static const struct {
     { "f unknown of length 2", make_unknowns, true },
 };
 
-enum { KINDS = sizeof kinds / sizeof kinds[0] };
+/* Those that are asked. */
+static const struct kind asked_kinds[] = {
+    { "a mixed", make_mixed, false },
+    { "g one source, 2 on", make_few_targets, false },
+    { "h one source, all on", make_many_targets, false },
+    { "i climb", make_climb, false },
+};
+
+enum {
+    KINDS = sizeof kinds / sizeof kinds[0],
+    ASKED_KINDS = sizeof asked_kinds / sizeof asked_kinds[0]
+};
 
 /* ---- calls ---- */
 
@@ -92,12 +106,41 @@ static uint64_t write_by(int program, const struct subject *s)
     }
 }
 
+static uint64_t routes_by(int program, const struct subject *s)
+{
+    switch (program) {
+    case OURS:
+        return ruxtajma_io_routes(s->bytes, s->size, s->type, s->bus, s->irq, room,
+                                  sizeof room);
+    case PLAIN_O2:
+        return plain_io_routes(s->bytes, s->size, s->type, s->bus, s->irq, room,
+                               sizeof room);
+    default:
+        return plain_io_routes_o3(s->bytes, s->size, s->type, s->bus, s->irq, room,
+                                  sizeof room);
+    }
+}
+
+static uint64_t address_by(int program, const struct subject *s)
+{
+    switch (program) {
+    case OURS:
+        return ruxtajma_address(s->bytes, s->size, s->bus, s->kind, s->address);
+    case PLAIN_O2:
+        return plain_address(s->bytes, s->size, s->bus, s->kind, s->address);
+    default:
+        return plain_address_o3(s->bytes, s->size, s->bus, s->kind, s->address);
+    }
+}
+
 uint64_t call_program(int program, struct subject *s)
 {
     switch (s->work) {
     case JUDGE: return judge_by(program, s);
     case LIST: return list_by(program, s);
     case WRITE: return write_by(program, s);
+    case ROUTES: return routes_by(program, s);
+    case ADDRESS: return address_by(program, s);
     default: return edit_by(program, s);
     }
 }
@@ -114,16 +157,24 @@ static struct subject *next(const char *name, enum work work, bool full)
     return s;
 }
 
+/* The refusal in an answer, with the inner number of 23; or 0. */
+static uint64_t refusal_in(enum work work, uint64_t answer)
+{
+    switch (work) {
+    case LIST: case WRITE: case ROUTES: return answer >> 32;
+    case ADDRESS: return answer & 255;
+    default: return answer;
+    }
+}
+
 /* All are accepted, or refused for the reason meant, and by all alike. */
 static void check(struct subject *s, uint32_t refusal)
 {
-    bool counted = s->work == LIST || s->work == WRITE;
-
     s->answer = call_program(PLAIN_O2, s);
     for (int j = 0; j < PROGRAMS; j++) {
         uint64_t answer = call_program(j, s);
 
-        if (answer != s->answer || (counted ? answer >> 32 : answer) != refusal) {
+        if (answer != s->answer || refusal_in(s->work, answer) != refusal) {
             fprintf(stderr, "%s, %zu bytes: program %d answers %llX\n", s->name,
                     s->size, j, (unsigned long long)answer);
             exit(1);
@@ -131,14 +182,14 @@ static void check(struct subject *s, uint32_t refusal)
     }
 }
 
-static void fill_board(size_t kind, uint32_t part)
+static void fill_board(const struct kind *k, uint32_t part)
 {
     size_t goal = PART_LIMIT / part;
 
     builder_start(&b, 0xFEE00000u);
-    kinds[kind].make(&b, goal, part);
+    k->make(&b, goal, part);
     if (HEADER + b.base_len != goal || b.ext_len != goal) {
-        fprintf(stderr, "%s: %zu + %zu bytes, not %zu\n", kinds[kind].name,
+        fprintf(stderr, "%s: %zu + %zu bytes, not %zu\n", k->name,
                 HEADER + b.base_len, b.ext_len, goal);
         exit(1);
     }
@@ -173,7 +224,7 @@ static void judged_tables(void)
     judged("bench board", false);
     for (size_t k = 0; k < KINDS; k++)
         for (uint32_t part = 1; part <= 2; part++) {
-            fill_board(k, part);
+            fill_board(&kinds[k], part);
             judged(kinds[k].name, part == 1);
         }
 }
@@ -189,7 +240,7 @@ static void each_board(make_subject *make, enum work work)
     make("typical, 40 entries", false, work);
     for (size_t k = 0; k < KINDS; k++)
         for (uint32_t part = 1; kinds[k].often && part <= 2; part++) {
-            fill_board(k, part);
+            fill_board(&kinds[k], part);
             make(kinds[k].name, part == 1, work);
         }
 }
@@ -259,6 +310,58 @@ static void written(const char *name, bool full, enum work work)
     check(s, 0);
 }
 
+/* The source of an I/O interrupt in the middle of them. */
+static void ask_routes(struct subject *s)
+{
+    size_t first = 0, last = b.base_len;
+
+    while (b.base[first] != 3)
+        first += b.base[first] == 0 ? 20 : 8;
+    while (b.base[last - 8] != 3)
+        last -= 8;
+
+    const uint8_t *e = b.base + first + (last - first) / 16 * 8;
+    s->type = e[1], s->bus = e[4], s->irq = e[5];
+}
+
+/* An address that no bus has, on the first bus that climbs. */
+static void ask_address(struct subject *s)
+{
+    s->bus = 0;
+    s->kind = 1;
+    s->address = (uint64_t)1 << 63;
+    for (size_t at = 0; at < b.ext_len; at += b.ext[at + 1])
+        if (b.ext[at] == 129 && b.ext[at + 3] & 1) {
+            s->bus = b.ext[at + 2];
+            return;
+        }
+}
+
+static void asked(const char *name, bool full, enum work work)
+{
+    struct subject *s = next(name, work, full);
+
+    s->size = seal(&b, s->bytes);
+    if (work == ROUTES)
+        ask_routes(s);
+    else
+        ask_address(s);
+    check(s, 0);
+}
+
+static void asked_tables(enum work work)
+{
+    fill_bench_board();
+    asked("bench board", false, work);
+    fill_typical();
+    asked("typical, 40 entries", false, work);
+    for (size_t k = 0; k < ASKED_KINDS; k++)
+        for (uint32_t part = 1; part <= 2; part++) {
+            fill_board(&asked_kinds[k], part);
+            asked(asked_kinds[k].name, part == 1, work);
+        }
+}
+
 void make_subjects(void)
 {
     judged_tables();
@@ -267,4 +370,6 @@ void make_subjects(void)
     for (enum work work = EDIT_MIDDLE; work <= EDIT_REFUSED; work++)
         each_board(edited, work);
     each_board(written, WRITE);
+    asked_tables(ROUTES);
+    asked_tables(ADDRESS);
 }

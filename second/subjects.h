@@ -1,4 +1,4 @@
-/* What is measured: tables to judge, edit and write, and dumps to list. */
+/* What is measured: tables to judge, edit, write and ask, and dumps to list. */
 #ifndef SECOND_SUBJECTS_H
 #define SECOND_SUBJECTS_H
 
@@ -15,11 +15,18 @@ uint64_t plain_write_o3(const struct fields *f, const uint8_t *base,
 uint32_t plain_edit_o3(uint8_t *t, size_t n, size_t place,
                        const uint8_t *stated, size_t stated_length,
                        const uint8_t *wanted, size_t wanted_length);
+uint64_t plain_io_routes_o3(const uint8_t *t, size_t n, uint8_t type, uint8_t bus,
+                            uint8_t irq, uint8_t *room, size_t size);
+uint32_t plain_address_o3(const uint8_t *t, size_t n, uint8_t bus, uint8_t kind,
+                          uint64_t address);
 
 enum { OURS, PLAIN_O2, PLAIN_O3, PROGRAMS };
-enum { SUBJECTS_MAX = 64, SUBJECT_ROOM = 65536 };
+enum { SUBJECTS_MAX = 80, SUBJECT_ROOM = 65536 };
 
-enum work { JUDGE, LIST, EDIT_MIDDLE, EDIT_LAST, EDIT_REFUSED, WRITE, WORKS };
+enum work {
+    JUDGE, LIST, EDIT_MIDDLE, EDIT_LAST, EDIT_REFUSED, WRITE, ROUTES, ADDRESS,
+    WORKS
+};
 
 struct subject {
     const char *name;
@@ -36,6 +43,10 @@ struct subject {
 
     struct parts parts;        /* of a table to write */
 
+    /* Of a table to ask: where the interrupt comes from, or the address. */
+    uint8_t type, bus, irq, kind;
+    uint64_t address;
+
     double median[PROGRAMS], least[PROGRAMS];   /* ns per call */
     double paired[PROGRAMS];   /* median over the rounds of ours / this */
 };
@@ -46,7 +57,7 @@ extern size_t subject_count;
 void make_subjects(void);
 
 /*
- * One call of a program on a subject.  Listings and images go into a large
+ * One call of a program on a subject.  Listings, images and pairs go into a large
  * room.  Each accepted edit takes back the one before it, whoever made that.
  */
 uint64_t call_program(int program, struct subject *s);

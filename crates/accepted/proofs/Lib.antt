@@ -1,6 +1,7 @@
 pub mod Walk
 pub mod Fields
 pub mod Sound
+pub mod Obeyed
 pub mod Pieces
 pub mod Stands
 pub mod Agree

@@ -1,5 +1,5 @@
 -- The rows 5 to 13 that an accepted table has passed, as facts. Assumes nothing.
-use Prim.Native.Nat.{ℕ, _≤_}
+use Prim.Native.Nat.{ℕ, _≤_, _<_}
 use mathlib.Core.Path.{_≡_}
 use mathlib.Core.Bool.{false}
 use mathlib.Core.List.{List, [], _∷_}
@@ -14,6 +14,8 @@ use Rattle.mps.specs.Table.{headerCut, wrongSignature, wrongBaseLength, wrongBa
 use Rattle.mps.specs.Judge.{tableRules, tableRefusal}
 use Rattle.laws.proofs.Tests.{or-parts}
 use Rattle.laws.proofs.Refusals.{so, refusal-pass, refusal-passed}
+use Rattle.laws.proofs.Small.{Bytes}
+use Rattle.numbers.proofs.Laws.{le-two}
 use Rattle.slices.proofs.Laws.{same-is, same-true}
 use Rattle.accepted.proofs.Walk.{walk-fault, fault-none}
 
@@ -94,3 +96,9 @@ sound-rows t s =
 pub sound-rest : (t : List ℕ) → Sound t → tableRefusal t ≡ refusal (drop 9 (tableRules t))
 unfolding tableRefusal tableRules
 sound-rest t s = refusal-passed (take 9 (tableRules t)) (drop 9 (tableRules t)) (sound-rows t s)
+
+-- ---- What they bound
+
+-- An accepted table counts its entries in two bytes.
+pub entries-most : (t : List ℕ) → Bytes t → tableRefusal t ≡ 0 → length (baseEntries t) < 65536
+entries-most t b a = omega (arith, sound t a .counted, le-two t 34, b 34, b 35)

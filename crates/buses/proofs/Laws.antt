@@ -1,11 +1,13 @@
 -- Laws of `lists`: what it says in the words of rule 15, and what a loop meets at a place. Assumes nothing.
 use Prim.Native.Nat.{ℕ, _+_, _-_, _≤_, _<_}
 use mathlib.Core.Path.{_≡_, refl, ap, sym, _∙_}
-use mathlib.Core.Bool.{true, false, _||_, true≢false, or-true}
+use mathlib.Core.Bool.{Bool, true, false, _||_, true≢false, or-true}
 use mathlib.Core.List.{List, [], _∷_}
 use native.Mathlib.Omega.{arith}
 use lib.ListN.{length, getD, take, drop}
-use Rattle.mps.specs.Words.{part, any, each, twice}
+use lib.Dec.{eqb}
+use borrow.Author.Tests.{eq-eqb, ne-eqb}
+use Rattle.mps.specs.Words.{part, among, any, each, twice}
 use Rattle.mps.specs.Layout.{Entry, idOf}
 use Rattle.mps.specs.Buses.{isBusName}
 use Rattle.mps.specs.Rules.{unknownName}
@@ -99,3 +101,21 @@ module _ (ids : Numbers) (s : List ℕ) (at : ℕ) (h : at ≤ length s) where
         let id = row-byte 8 s at 1 (omega arith) in
         rw (rows-next 8 s at (omega arith) h r, ← id)
         (lists-new ids (take 8 (drop at s)) (rows 8 (drop (at + 8) s)) (rw id t) (rw (row-part 8 s at 2 8 (omega arith), u)))
+
+-- ---- One bus
+
+-- Whether an entry has this ID.
+abbrev pub hasId : ℕ → Entry → Bool
+hasId bus e = eqb bus (idOf e)
+
+pub ids-among : (bus : ℕ) (es : List Entry) → any (hasId bus) es ≡ among bus (each idOf es)
+unfolding any among each
+ids-among bus [] = refl
+ids-among bus (e ∷ es) = rw (ids-among bus es)
+
+module _ (bus : ℕ) (s : List ℕ) (at : ℕ) where
+  pub id-here : getD s (at + 1) 0 ≡ bus → true ≡ hasId bus (take 8 (drop at s))
+  id-here q = sym (eq-eqb bus _ (sym (row-byte 8 s at 1 (omega arith) ∙ q)))
+
+  pub id-other : (getD s (at + 1) 0 ≡ bus → ⊥) → false ≡ hasId bus (take 8 (drop at s))
+  id-other n = sym (ne-eqb bus _ (λ q. n (sym (q ∙ row-byte 8 s at 1 (omega arith)))))

@@ -1,5 +1,5 @@
 -- How a walk by the entries' lengths meets the entries. Assumes nothing.
-use Prim.Native.Nat.{ℕ, zero, suc, pred, _+_, _-_, _≤_, _<_, min}
+use Prim.Native.Nat.{ℕ, zero, suc, _+_, _-_, _≤_, _<_, min}
 use mathlib.Core.Path.{_≡_, refl, ap, _∙_}
 use mathlib.Core.Bool.{Bool, true, false, cond}
 use mathlib.Core.List.{List, [], _∷_}
@@ -44,13 +44,6 @@ module _ (s : List ℕ) (at : ℕ) {n : ℕ} (h : at < length s) (e : n ≡ base
   entry-next : cut baseEntryLength 0 (drop at s) ≡ take n (drop at s) ∷ cut baseEntryLength 0 (drop (at + n) s)
   entry-next =
       cut-next baseEntryLength s at n h (e ∙ size-at s at) (let b = size-bounds (getD s at 0 ∷ []) in omega arith)
-
--- No more entries than bytes.
-pub count-most : (k : ℕ) (s : List ℕ) → length (cut baseEntryLength k s) ≤ length s
-unfolding cut
-count-most k [] = omega arith
-count-most (suc k) (x ∷ s) = omega (arith, count-most k s)
-count-most zero (x ∷ s) = omega (arith, count-most (pred (baseEntryLength (x ∷ s))) s)
 
 -- ---- before
 

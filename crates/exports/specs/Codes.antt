@@ -6,6 +6,10 @@ use Rattle.mps.specs.Refusals.{innerNumber}
 use Rattle.mps.specs.declared.Fields.{Fields}
 use Rattle.mps.specs.declared.Written.{Written}
 use Rattle.mps.specs.declared.Written.the-variants.{Bytes, Refused}
+use Rattle.mps.specs.declared.Routed.{Routed}
+use Rattle.mps.specs.declared.Routed.the-variants.{Pairs, Refused as Routed·Refused}
+use Rattle.mps.specs.declared.Seen.{Seen}
+use Rattle.mps.specs.declared.Seen.the-variants.{No, Yes, Undeclared, Refused as Seen·Refused}
 use Rattle.mps.specs.declared.Edited.{Edited}
 use Rattle.mps.specs.declared.Edited.the-variants.{Done, Refused as Edited·Refused, Inner}
 
@@ -19,6 +23,19 @@ highHalf = 2 ^ 32
 unfoldable pub writtenCode : Written → ℕ
 writtenCode (Bytes count) = count
 writtenCode (Refused n) = n * highHalf
+
+-- The same of the pairs of a route: a count fits (crate promises, routes-most).
+unfoldable pub routedCode : Routed → ℕ
+routedCode (Pairs count) = count
+routedCode (Routed·Refused n) = n * highHalf
+
+-- The refusal's number in the low byte; in the next 0 for no, 1 for yes, 2 for undeclared; the links climbed in the high
+-- half, which holds them (crate addresses, links-most).
+unfoldable pub seenCode : Seen → ℕ
+seenCode (No links) = links * 65536
+seenCode (Yes links) = 256 + links * 65536
+seenCode (Undeclared links) = 512 + links * 65536
+seenCode (Seen·Refused n) = n
 
 -- The refusal's number in the low byte, the inner number in the next.
 unfoldable pub editedCode : Edited → ℕ

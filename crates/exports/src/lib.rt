@@ -1,28 +1,42 @@
 // The calls for C: the proved library under plain names, for a static library (`rt staticlib exports`).
 //
-// Promised of any bytes: `ruxtajma_judge` answers 0 for accepted, else the refusal's number; `ruxtajma_list`,
-// `ruxtajma_write` and `ruxtajma_edit` answer a length or a refusal's numbers, as specs/Codes.antt puts them into one. The
-// definitions stand in mps's specs/Judge.antt, Listing.antt, Writing.antt and Edits.antt.
+// Promised of any bytes: `ruxtajma_judge` answers 0 for accepted, else the refusal's number; the other calls answer what is
+// asked or a refusal's numbers, as specs/Codes.antt puts them into one. The definitions stand in mps's specs/Judge.antt,
+// Listing.antt, Routes.antt, Addresses.antt, Writing.antt and Edits.antt.
 //
 // A slice is a pointer and a length: the caller lends that many readable bytes for the time of the call, writable ones for a
 // room or for the table of an edit, which no other slice of the call overlaps: the stated bytes are a copy, never those of
 // the table itself. The pointer is not null even where the length is 0.
 use mps::Edited;
 use mps::Fields;
+use mps::Routed;
+use mps::Seen;
 use mps::Written;
 ghost use mathlib.Core.Path.{_≡_};
 ghost use Rattle.mps.specs.Judge.{tableRefusal};
 ghost use Rattle.mps.specs.Listing.{listed, listLeft};
+ghost use Rattle.mps.specs.Rules.{ioSide, localSide};
+ghost use Rattle.mps.specs.Routes.{routed, routesLeft};
+ghost use Rattle.mps.specs.Addresses.{seen};
 ghost use Rattle.mps.specs.Writing.{written, writeLeft};
 ghost use Rattle.mps.specs.Edits.{edited, editLeft};
 ghost use Rattle.writer.specs.Laid.{partsGiven};
 ghost use Rattle.editor.specs.Tested.{editOf};
-ghost use Rattle.exports.specs.Codes.{writtenCode, editedCode, fieldsGiven};
+ghost use Rattle.exports.specs.Codes.{writtenCode, routedCode, seenCode, editedCode, fieldsGiven};
 
 // 2^32
 const HIGH_HALF: u64 = 0x100000000;
 
 const INNER: u32 = 23;
+
+// The answers of an address query, in the second byte.
+
+const YES: u32 = 256;
+
+const UNDECLARED: u32 = 512;
+
+// One link, in the high half.
+const LINK: u32 = 65536;
 
 // uint8_t ruxtajma_judge(const uint8_t *table, size_t length)
 #[no_mangle]
@@ -51,6 +65,61 @@ fn code(answer: Written) -> u64
     match answer {
         Written::Bytes(n) => n as u64,
         Written::Refused(n) => n as u64 * HIGH_HALF,
+    }
+}
+
+// uint64_t ruxtajma_io_routes(const uint8_t *table, size_t length, uint8_t type, uint8_t bus, uint8_t irq,
+//     uint8_t *room, size_t room_length)
+//
+// The pairs of an interrupt line, ID and input, two bytes each, stand in the room from its first byte on, and what lies past
+// them stays; at a refusal all of the room stays. The high half is the refusal's number, 5 to 18, 24 or 19, or 0; then the
+// low half is how many pairs there are.
+#[no_mangle]
+pub extern "C" fn ruxtajma_io_routes(t: &[u8], itype: u8, bus: u8, irq: u8, room: &mut [u8]) -> u64
+    ensures { λ r. ⌜ r ≡ routedCode (routed ioSide (now (t .entry)) itype bus irq (now (room .entry))) ⌝ }
+    ensures { λ _. ⌜ now (room .exit) ≡ routesLeft ioSide (now (t .entry)) itype bus irq (now (room .entry)) ⌝ }
+{
+    pairs_code(routes::io(t, itype, bus, irq, room))
+}
+
+// uint64_t ruxtajma_local_routes(..): the same over local interrupts and processors.
+#[no_mangle]
+pub extern "C" fn ruxtajma_local_routes(
+    t: &[u8],
+    itype: u8,
+    bus: u8,
+    irq: u8,
+    room: &mut [u8],
+) -> u64
+    ensures { λ r. ⌜ r ≡ routedCode (routed localSide (now (t .entry)) itype bus irq (now (room .entry))) ⌝ }
+    ensures { λ _. ⌜ now (room .exit) ≡ routesLeft localSide (now (t .entry)) itype bus irq (now (room .entry)) ⌝ }
+{
+    pairs_code(routes::local(t, itype, bus, irq, room))
+}
+
+fn pairs_code(answer: Routed) -> u64
+    ensures { λ r. ⌜ r ≡ routedCode answer ⌝ }
+{
+    match answer {
+        Routed::Pairs(n) => n as u64,
+        Routed::Refused(n) => n as u64 * HIGH_HALF,
+    }
+}
+
+// uint32_t ruxtajma_address(const uint8_t *table, size_t length, uint8_t bus, uint8_t kind, uint64_t address)
+//
+// The low byte is the refusal's number, 5 to 18 or 24, or 0; then the next is 0 for no, 1 for yes, 2 for undeclared, and the
+// high half is how many links to parents were climbed.
+#[no_mangle]
+pub extern "C" fn ruxtajma_address(t: &[u8], bus: u8, kind: u8, address: u64) -> u32
+    ensures { λ r. ⌜ r ≡ seenCode (seen (now (t .entry)) bus kind address) ⌝ }
+{
+    let answer = addresses::seen(t, bus, kind, address);
+    match answer {
+        Seen::No(links) => links as u32 * LINK,
+        Seen::Yes(links) => YES + links as u32 * LINK,
+        Seen::Undeclared(links) => UNDECLARED + links as u32 * LINK,
+        Seen::Refused(n) => n as u32,
     }
 }
 

@@ -1,15 +1,17 @@
 -- What a caller may use of the judge's answers. Assumes nothing.
-use Prim.Native.Nat.{ℕ, zero, suc}
+use Prim.Native.Nat.{ℕ, zero, suc, _-_, _/_}
 use mathlib.Core.Path.{_≡_, refl, sym, ap, _∙_}
 use mathlib.Core.Bool.{Bool, true, false, cond, true≢false}
 use mathlib.Core.List.{List}
 use native.Mathlib.Omega.{arith}
-use Rattle.mps.specs.Words.{head}
+use lib.ListN.{length}
+use Rattle.mps.specs.Words.{head, among, each, part}
 use Rattle.mps.specs.Refusals.{refusal}
 use Rattle.mps.specs.Answers.{examinedOf, examinedNumbers}
-use Rattle.mps.specs.Layout.{baseEntries, extendedEntries}
+use Rattle.mps.specs.Layout.{entrySize, busType, idOf, baseEntries, extendedEntries}
 use Rattle.mps.specs.Table.{wrongExtendedPart, walkFrom, wrongExtended, extendedFrom}
-use Rattle.mps.specs.Sections.{sections}
+use Rattle.mps.specs.Rules.{isListed, idsOf}
+use Rattle.mps.specs.Sections.{rows, sections}
 use Rattle.mps.specs.Judge.{tableRefusal, judged, examined}
 use Rattle.mps.specs.declared.Sections.{Sections}
 use Rattle.mps.specs.declared.Judged.the-variants.{Accepted, Refused as Judged·Refused}
@@ -17,6 +19,9 @@ use Rattle.mps.specs.declared.Examined.{Examined}
 use Rattle.mps.specs.declared.Examined.the-variants.{Accepted as Examined·Accepted, Refused}
 use Rattle.laws.proofs.Tests.{or-parts}
 use Rattle.laws.proofs.Refusals.{first-none}
+use Rattle.laws.proofs.Lists.{length-each}
+use Rattle.laws.proofs.Parts.{length-part}
+use Rattle.laws.proofs.Rows.{rows-count}
 use Rattle.laws.proofs.Small.{Bytes}
 use Rattle.header.specs.Header.{headerRefusal}
 use Rattle.header.proofs.Laws.{header-passed, extended-fits}
@@ -75,6 +80,11 @@ module _ (t : List ℕ) {r : Examined} (e : r ≡ examined t) where
   unfolding numberOf
   refused-number q = ap numberOf (sym q) ∙ number-is
 
+  -- and which is not 0.
+  pub refused-some : {n : ℕ} → r ≡ Refused n → n ≡ 0 → ⊥
+  unfolding examined isAccepted
+  refused-some q z = true≢false (ap isAccepted (rw (sym (refused-number q) ∙ z) at (sym e ∙ q)))
+
   pub accepted-sections : {p : Sections} → r ≡ Examined·Accepted p → p ≡ sections t
   unfolding examined
   accepted-sections q = accepted-none (tableRefusal t) (sections t) (sym q ∙ e) .1
@@ -99,3 +109,17 @@ accepted-placed t bytes e =
 -- and so are those that the examiner answers.
 pub accepted-places : (t : List ℕ) {r : Examined} {p : Sections} → Bytes t → r ≡ examined t → r ≡ Examined·Accepted p → Placed t p
 accepted-places t bytes e q = rw (accepted-sections t e q) (accepted-placed t bytes (sym (accepted-number t e q)))
+
+-- ---- The listed buses
+
+pub placed-listed : (t : List ℕ) (p : Sections) → Placed t p → (bus : ℕ)
+    → isListed (baseEntries t) bus ≡ among bus (each idOf (rows entrySize (part (p .buses) (p .ioapics) t)))
+unfolding isListed idsOf
+placed-listed t p places bus = rw (places .buses)
+
+pub placed-buses : (t : List ℕ) (p : Sections) → Placed t p → length (idsOf busType (baseEntries t)) ≡ (p .ioapics - p .buses) / entrySize
+unfolding idsOf
+placed-buses t p places =
+    rw (places .buses) (length-each idOf (rows entrySize (part (p .buses) (p .ioapics) t)))
+    ∙ rows-count (part (p .buses) (p .ioapics) t)
+    ∙ rw (length-part (p .buses) (p .ioapics) t (omega (arith, places .to-interrupts, places .to-locals, places .to-mappings, places .to-links, places .to-modifiers, places .to-others, places .to-end, places .inside)))

@@ -12,7 +12,7 @@ use Rattle.mps.specs.Words.{among, twice, keep, any, each, none, head}
 use Rattle.mps.specs.Layout.{Entry, busType, extendedBus, parentBus}
 use Rattle.mps.specs.Rules.{idsOf, isListed, wrongHierarchy, onBus, parentsOf, climbsTo, onCircle, circle}
 use Rattle.laws.proofs.Tests.{whether, either, and-parts, contrary, same-test}
-use Rattle.laws.proofs.Lists.{among-none, among-first, among-rest, among-cases, Within, any-one, any-among}
+use Rattle.laws.proofs.Lists.{among-none, among-first, among-rest, among-cases, Within, any-one, any-among, length-each}
 use Rattle.laws.proofs.Pigeons.{pigeonhole}
 
 -- Whether so many links can be climbed from a bus.
@@ -25,11 +25,6 @@ unfoldable pub endless : List Entry → ℕ → Bool
 endless ls bus = climbs (suc (length ls)) ls bus
 
 -- ---- The links
-
-each-length : (f : Entry → ℕ) (ls : List Entry) → length (each f ls) ≡ length ls
-unfolding each
-each-length f [] = refl
-each-length f (e ∷ ls) = ap suc (each-length f ls)
 
 pub parentsOf-here : (bus : ℕ) (e : Entry) (ls : List Entry) → onBus bus e ≡ true → parentsOf (e ∷ ls) bus ≡ parentBus e ∷ parentsOf ls bus
 unfolding parentsOf keep each
@@ -196,7 +191,7 @@ module _ (ls : List Entry) where
   round-circle {m} {bus} w =
       let n = length ls in
       let c = round-climbs n w w in
-      let t = trail-crowded (each parentBus ls) (λ z a. a) n bus c (way-parent w) (omega (arith, each-length parentBus ls)) in
+      let t = trail-crowded (each parentBus ls) (λ z a. a) n bus c (way-parent w) (omega (arith, length-each parentBus ls)) in
       let r = trail-twice (λ x. (k : ℕ) × Way bus k x) (λ x b. round-back w (b .1)) n bus (m, w) c t in
       from-way (round-along (r .1 .1) (r .2))
 
@@ -214,7 +209,7 @@ module _ (ls : List Entry) where
   unfolding endless
   endless-circle bus c =
       let ps = each parentBus ls in
-      climbs-circle (bus ∷ ps) (λ z. among-rest z bus ps) bus (among-first bus bus ps refl) (rw (each-length parentBus ls) c)
+      climbs-circle (bus ∷ ps) (λ z. among-rest z bus ps) bus (among-first bus bus ps refl) (rw (length-each parentBus ls) c)
 
   -- A bus whose climb ends, however late, is on no circle.
   pub ends-free : (k bus : ℕ) → climbs k ls bus ≡ false → onCircle ls bus ≡ false

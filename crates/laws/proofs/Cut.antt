@@ -1,5 +1,5 @@
 -- Laws of `cut`: how a walk at a place of a list meets the list's pieces. Assumes nothing.
-use Prim.Native.Nat.{ℕ, zero, suc, _+_, _≤_, _<_}
+use Prim.Native.Nat.{ℕ, zero, suc, pred, _+_, _≤_, _<_}
 use mathlib.Core.Path.{_≡_, refl, ap, _∙_}
 use mathlib.Core.List.{List, [], _∷_}
 use native.Mathlib.Omega.{arith}
@@ -33,3 +33,10 @@ module _ (len : List ℕ → ℕ) where
   cut-next s at n h e p =
       cut-first (drop at s) n (omega (arith, length-drop at s)) e p
       ∙ ap (λ (l : List ℕ). take n (drop at s) ∷ cut len 0 l) (drop-drop n at s)
+
+  -- No more pieces than bytes.
+  pub cut-most : (k : ℕ) (s : List ℕ) → length (cut len k s) ≤ length s
+  unfolding cut
+  cut-most k [] = omega arith
+  cut-most (suc k) (x ∷ s) = omega (arith, cut-most k s)
+  cut-most zero (x ∷ s) = omega (arith, cut-most (pred (len (x ∷ s))) s)

@@ -9,7 +9,7 @@ use lib.ListN.{length, getD, take, drop, replicate, drop-of-length-le}
 use lib.Seq.{drop-cons}
 use lib.Dec.{eqb}
 use borrow.Author.Tests.{eqb-true, eq-eqb}
-use Rattle.mps.specs.Words.{among, keep, any, joined, exactly}
+use Rattle.mps.specs.Words.{byte, among, keep, any, each, joined, exactly}
 use Rattle.laws.proofs.Tests.{whether, either}
 
 -- ---- among
@@ -79,10 +79,31 @@ unfolding keep any
 any-keep p q [] = refl
 any-keep p q (x ∷ xs) = whether (q x) (λ e. rw (e, keep, any-keep p q xs)) (λ e. rw (e, keep, any-keep p q xs))
 
+-- To keep among those that pass one test is to keep those that pass both.
+pub keep-keep : {A : Type 0} (p q : A → Bool) (xs : List A) → keep p (keep q xs) ≡ keep (λ (x : A). q x && p x) xs
+unfolding keep
+keep-keep p q [] = refl
+keep-keep p q (x ∷ xs) = whether (q x) (λ e. rw (e, keep, keep-keep p q xs)) (λ e. rw (e, keep, keep-keep p q xs))
+
+pub keep-most : {A : Type 0} (p : A → Bool) (xs : List A) → length (keep p xs) ≤ length xs
+unfolding keep
+keep-most p [] = omega arith
+keep-most p (x ∷ xs) =
+    whether (p x)
+    (λ e. rw (e, keep) (omega (arith, keep-most p xs)))
+    (λ e. rw (e, keep) (omega (arith, keep-most p xs)))
+
 pub keep-append : {A : Type 0} (p : A → Bool) (xs ys : List A) → keep p (xs ++ ys) ≡ keep p xs ++ keep p ys
 unfolding keep
 keep-append p [] ys = refl
 keep-append p (x ∷ xs) ys = whether (p x) (λ t. rw (t, keep, keep-append p xs ys)) (λ f. rw (f, keep, keep-append p xs ys))
+
+-- ---- each
+
+pub length-each : {A B : Type 0} (f : A → B) (xs : List A) → length (each f xs) ≡ length xs
+unfolding each
+length-each f [] = refl
+length-each f (x ∷ xs) = ap suc (length-each f xs)
 
 -- ---- joined
 
@@ -90,6 +111,19 @@ pub joined-append : {A B : Type 0} (f : A → List B) (xs ys : List A) → joine
 unfolding joined
 joined-append f [] ys = refl
 joined-append f (x ∷ xs) ys = rw (joined-append f xs ys) (sym (append-assoc (f x) (joined f xs) (joined f ys)))
+
+-- Two functions that agree on every element.
+pub joined-same : {A B : Type 0} (f g : A → List B) → ((x : A) → f x ≡ g x) → (xs : List A) → joined f xs ≡ joined g xs
+unfolding joined
+joined-same f g h [] = refl
+joined-same f g h (x ∷ xs) = rw (h x, joined-same f g h xs)
+
+-- ---- Zeros
+
+pub zeros-at : (n i : ℕ) → byte (replicate n 0) i ≡ 0
+zeros-at zero i = refl
+zeros-at (suc n) zero = refl
+zeros-at (suc n) (suc i) = zeros-at n i
 
 -- ---- exactly
 

@@ -1,12 +1,15 @@
 -- The pigeonhole: numbers that are all among fewer ones are not all different. Assumes nothing.
-use Prim.Native.Nat.{ℕ, suc, _<_}
+use Prim.Native.Nat.{ℕ, zero, suc, _≤_, _<_}
 use mathlib.Core.Path.{_≡_, refl, sym, ap, _∙_}
-use mathlib.Core.Bool.{true, true≢false}
+use mathlib.Core.Bool.{true, false, true≢false}
 use mathlib.Core.List.{List, [], _∷_}
 use native.Mathlib.Omega.{arith}
 use lib.ListN.{length}
+use lib.Dec.{ltb, eqb}
+use borrow.Author.Tests.{eqb-true, eqb-false, ltb-true, ltb-false}
 use Rattle.mps.specs.Words.{among, twice}
 use Rattle.laws.proofs.Tests.{whether}
+use Rattle.laws.proofs.Small.{Bytes}
 use Rattle.laws.proofs.Lists.{among-none, among-first, among-rest, among-cases, Within}
 
 -- A number can be taken out of a list that it is among, and the others stay.
@@ -27,3 +30,35 @@ pigeonhole (x ∷ xs) ys f h = whether (among x xs) (λ e. rw e) λ e.
     rw e (pigeonhole xs (t .0)
     (λ z a. t .2 z (λ q. true≢false (sym a ∙ ap (λ (k : ℕ). among k xs) q ∙ e)) (f z (among-rest z x xs a)))
     (omega arith))
+
+-- ---- Bytes
+
+-- The numbers below n.
+below : ℕ → List ℕ
+below zero = []
+below (suc n) = n ∷ below n
+
+length-below : (n : ℕ) → length (below n) ≡ n
+unfolding below
+length-below zero = refl
+length-below (suc n) = ap suc (length-below n)
+
+among-below : (n x : ℕ) → x < n → among x (below n) ≡ true
+unfolding below
+among-below zero x h = absurd (omega arith)
+among-below (suc n) x h =
+    whether (eqb x n)
+    (λ q. among-first x n (below n) (eqb-true x n q))
+    (λ q. among-rest x n (below n) (among-below n x (omega (arith, eqb-false x n q))))
+
+among-byte : (xs : List ℕ) → Bytes xs → (x : ℕ) → among x xs ≡ true → x < 256
+among-byte [] b x a = absurd (among-none x a)
+among-byte (y ∷ ys) b x a = among-cases x y ys a (λ q. rw q (b 0)) (among-byte ys (λ i. b (suc i)) x)
+
+-- There are no more than 256 different bytes.
+pub bytes-most : (xs : List ℕ) → Bytes xs → twice xs ≡ false → length xs ≤ 256
+bytes-most xs b d =
+    whether (ltb 256 (length xs))
+    (λ q. absurd (true≢false (sym (pigeonhole xs (below 256) (λ z a. among-below 256 z (among-byte xs b z a))
+    (rw (length-below 256) (ltb-true 256 (length xs) q))) ∙ d)))
+    (λ q. omega (arith, ltb-false 256 (length xs) q))

@@ -4,7 +4,7 @@ use mathlib.Core.Bool.{Bool, cond, not, _||_, _&&_}
 use mathlib.Core.List.{List, [], _∷_, _++_}
 use lib.ListN.{length}
 use lib.Dec.{ltb, eqb}
-use Rattle.mps.specs.Words.{keep, joined, put}
+use Rattle.mps.specs.Words.{keep, each, joined, put}
 use Rattle.mps.specs.Refusals.{Rule, _when_, refusal, roomNumber, queryNumber}
 use Rattle.mps.specs.Layout.{Entry, ofType, interruptTypeMost, idOf, interruptType, sourceBus, sourceIrq, destination, input, everyone, baseEntries}
 use Rattle.mps.specs.Rules.{Side, enabledOf, isListed}
@@ -12,10 +12,13 @@ use Rattle.mps.specs.Judge.{tableRules}
 use Rattle.mps.specs.Answers.{routedOf}
 use Rattle.mps.specs.declared.Routed.{Routed}
 
--- Whether an interrupt entry of a side has this interrupt type, source bus and source IRQ, each compared as a whole byte.
+-- Whether an interrupt entry has this interrupt type, source bus and source IRQ, each compared as a whole byte.
+unfoldable pub asked : ℕ → ℕ → ℕ → Entry → Bool
+asked itype bus irq e = eqb (interruptType e) itype && eqb (sourceBus e) bus && eqb (sourceIrq e) irq
+
+-- .. and is of the side that is asked about.
 unfoldable pub matches : Side → ℕ → ℕ → ℕ → Entry → Bool
-matches side itype bus irq e =
-    ofType (side .interrupts) e && eqb (interruptType e) itype && eqb (sourceBus e) bus && eqb (sourceIrq e) irq
+matches side itype bus irq e = ofType (side .interrupts) e && asked itype bus irq e
 
 -- Whether an interrupt entry names an APIC: "255 names all".
 unfoldable pub names : Entry → Entry → Bool
@@ -25,13 +28,13 @@ names e apic = eqb (destination e) everyone || eqb (destination e) (idOf apic)
 abbrev pub pairSize : ℕ
 pairSize = 2
 
--- The pair of an interrupt entry and an APIC that it names.
-unfoldable pub pair : Entry → Entry → List ℕ
-pair e apic = idOf apic ∷ input e ∷ []
+-- The pair of an interrupt entry and the ID of an APIC that it names.
+unfoldable pub pair : Entry → ℕ → List ℕ
+pair e id = id ∷ input e ∷ []
 
 -- ".. and in each entry every enabled I/O APIC it names, in table order"
 unfoldable pub pairsTo : List Entry → Entry → List ℕ
-pairsTo apics e = joined (pair e) (keep (names e) apics)
+pairsTo apics e = joined (pair e) (each idOf (keep (names e) apics))
 
 -- "entries in table order": the bytes of all the pairs.
 unfoldable pub routes : Side → List Entry → ℕ → ℕ → ℕ → List ℕ

@@ -184,3 +184,10 @@ pub const RANGE_LIST: usize = 4;
 pub const SPACE_KIND_MOST: u8 = 2;
 
 pub const RANGE_LIST_MOST: u32 = 1;
+
+pub const MODIFIED_BELOW: u64 = 65536;
+
+// ---- Answers
+
+// A pair of a route: an ID and an input.
+pub const PAIR_SIZE: usize = 2;

@@ -10,6 +10,7 @@ use lib.Dec.{eqb}
 use borrow.Author.Tests.{eqb-true, eqb-false}
 use Rattle.mps.specs.Layout.{extendedBus, parentBus}
 use Rattle.mps.specs.Sections.{rows}
+use Rattle.laws.proofs.Lists.{zeros-at}
 use Rattle.laws.proofs.Rows.{rows-done, rows-next, row-byte}
 use Rattle.parents.specs.Parents.{Array, filled, clash, goesOn, cleared, endlessIn}
 
@@ -33,16 +34,11 @@ array-set up i v a h l = (rw length-set (a .0), λ j. cases j (eqb i j) refl)
 abbrev pub blank : ℕ → List ℕ
 blank n = replicate n 0
 
-pub blank-at : (n j : ℕ) → getD (blank n) j 0 ≡ 0
-blank-at zero j = refl
-blank-at (suc n) zero = refl
-blank-at (suc n) (suc j) = blank-at n j
-
 pub blank-length : (n : ℕ) → length (blank n) ≡ n
 blank-length n = length-replicate {A = ℕ} n 0
 
 pub blank-array : Array (blank 256)
-blank-array = (blank-length 256, λ j. rw (blank-at 256 j) (omega arith))
+blank-array = (blank-length 256, λ j. rw (zeros-at 256 j) (omega arith))
 
 -- ---- Steps of a climb: as many links as wanted are climbed, the bus has none, or it has one
 

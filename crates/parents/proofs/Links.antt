@@ -12,12 +12,13 @@ use Rattle.mps.specs.Words.{among, twice, keep, any, each}
 use Rattle.mps.specs.Layout.{Entry, extendedBus, parentBus}
 use Rattle.mps.specs.Sections.{rows}
 use Rattle.mps.specs.Rules.{onBus, parentsOf, onCircle, circle}
+use Rattle.laws.proofs.Lists.{zeros-at}
 use Rattle.laws.proofs.Tests.{whether, or-parts, or-swap, or-four}
 use Rattle.laws.proofs.Rows.{rows-short, rows-count}
 use Rattle.laws.proofs.Small.{Bytes, Small, small-none, small-more, small-rows}
 use Rattle.laws.proofs.Circle.{climbs, endless, parentsOf-here, parentsOf-skip, endless-circle, ends-free}
 use Rattle.parents.specs.Parents.{wrongParents, Array, store, filled, clash, goesOn, cleared, endlessIn}
-use Rattle.parents.proofs.Laws.{set-at, blank, blank-at, blank-length, goes-stop, goes-next, cleared-keeps, array-cleared}
+use Rattle.parents.proofs.Laws.{set-at, blank, blank-length, goes-stop, goes-next, cleared-keeps, array-cleared}
 
 -- ---- Two links of one bus
 
@@ -28,7 +29,7 @@ taken up e = elim (getD up (extendedBus e) 0) [ zero ↦ false | suc p ↦ true 
 taken-none : (n : ℕ) (ls : List Entry) → any (taken (blank n)) ls ≡ false
 unfolding any taken
 taken-none n [] = refl
-taken-none n (e ∷ ls) = rw (taken, blank-at n (extendedBus e)) (taken-none n ls)
+taken-none n (e ∷ ls) = rw (taken, zeros-at n (extendedBus e)) (taken-none n ls)
 
 taken-set :
     (up : List ℕ) (b p : ℕ) (e : Entry) → b < length up
@@ -134,7 +135,7 @@ module _ (ls : List Entry) where
   }
     where
       is : (bus : ℕ) → getD (filled (blank 256) ls) bus 0 ≡ linkOf (parentsOf ls bus) 0
-      is bus = filled-link (blank 256) ls bus (blank-length 256) l t ∙ rw (blank-at 256 bus)
+      is bus = filled-link (blank 256) ls bus (blank-length 256) l t ∙ rw (zeros-at 256 bus)
 
   -- and so it does without the link of a bus whose climb ends.
   told-set : (up : List ℕ) (bus : ℕ) → Told ls up → bus < length up → Ends ls bus → Told ls (set up bus 0)

@@ -1,52 +1,19 @@
--- The climb of the address query: it takes no more links than there are other listed buses, and in an accepted table the
--- number that falls never runs out. Assumes nothing.
-use Prim.Native.Nat.{ℕ, zero, suc, _+_, _-_, _≤_}
+-- The climb of the address query: in an accepted table the number that falls never runs out. Assumes nothing.
+use Prim.Native.Nat.{ℕ, zero, suc, _+_, _-_}
 use mathlib.Core.Path.{_≡_, refl, sym, _∙_}
-use mathlib.Core.Bool.{Bool, true, false, cond, true≢false, false≢true}
+use mathlib.Core.Bool.{Bool, true, false, cond, true≢false}
 use mathlib.Core.List.{List, [], _∷_}
-use native.Mathlib.Nat.{suc-add, zero-add}
+use native.Mathlib.Nat.{suc-add}
 use native.Mathlib.Numerals.{sub-one}
-use native.Mathlib.Omega.{arith}
 use lib.ListN.{length}
 use Rattle.mps.specs.Words.{any, none, head}
-use Rattle.mps.specs.Layout.{Entry, busType, baseEntries, extendedEntries}
-use Rattle.mps.specs.Rules.{onBus, links, parentsOf, isListed, idsOf, wrongHierarchy, circle}
-use Rattle.mps.specs.Addresses.{Say, takesAway, coversOrAdds, hasEntry, subtractive, says, answer, climb, seenBy}
+use Rattle.mps.specs.Layout.{Entry, busType}
+use Rattle.mps.specs.Rules.{links, parentsOf, isListed, idsOf, wrongHierarchy, circle}
+use Rattle.mps.specs.Addresses.{Say, takesAway, coversOrAdds, hasEntry, subtractive, says, answer, climb}
 use Rattle.mps.specs.declared.Seen.{Seen}
-use Rattle.mps.specs.declared.Seen.the-variants.{No, Yes, Undeclared, Refused}
-use Rattle.laws.proofs.Tests.{whether}
-use Rattle.laws.proofs.Circle.{climbs, climbs-listed, parentsOf-here, parentsOf-skip}
-
--- ---- The links climbed
-
--- The links that an answer carries.
-abbrev pub linksOf : Seen → ℕ
-linksOf (No k) = k
-linksOf (Yes k) = k
-linksOf (Undeclared k) = k
-linksOf (Refused n) = 0
-
-links-answer : (s : Say) (k n : ℕ) (above : Seen) → k ≤ n → linksOf above ≤ n → linksOf (answer s k above) ≤ n
-links-answer Say.no k n above h g = h
-links-answer Say.yes k n above h g = h
-links-answer Say.parent k n above h g = g
-links-answer Say.undeclared k n above h g = h
-
-pub links-climb : (left : ℕ) (xs : List Entry) (bus kind address k : ℕ) → linksOf (climb left xs bus kind address k) ≤ k + left
-unfolding climb
-links-climb zero xs bus kind address k = links-answer (says xs bus kind address) k (k + 0) (Undeclared k) (omega arith) (omega arith)
-links-climb (suc left) xs bus kind address k =
-    let up = head bus (parentsOf (links xs) bus) in
-    links-answer (says xs bus kind address) k (k + suc left) (climb left xs up kind address (k + 1)) (omega arith)
-    (omega (arith, links-climb left xs up kind address (k + 1)))
-
-pub links-bound : (t : List ℕ) (bus kind address : ℕ) → linksOf (seenBy t bus kind address) ≤ length (idsOf busType (baseEntries t)) - 1
-unfolding seenBy
-links-bound t bus kind address =
-    let left = length (idsOf busType (baseEntries t)) - 1 in
-    rw (zero-add left) at (links-climb left (extendedEntries t) bus kind address 0)
-
--- ---- The number that falls
+use Rattle.mps.specs.declared.Seen.the-variants.{Undeclared}
+use Rattle.laws.proofs.Circle.{climbs, climbs-listed}
+use Rattle.addresses.proofs.Climbs.{subtractive-none}
 
 -- Where not n + 1 links can be climbed from a bus, it has none, or not n can be climbed from its parent.
 climbs-cases : {C : Type 0} (n : ℕ) (ls : List Entry) (bus : ℕ) → climbs (suc n) ls bus ≡ false
@@ -59,15 +26,7 @@ climbs-cases {C} n ls bus = cases (parentsOf ls bus)
     cases [] c f g = f refl
     cases (p ∷ ps) c f g = g c
 
--- The subtractive bit stands in a link, so a bus without one does not have it,
-subtractive-none : (bus : ℕ) (ls : List Entry) → none (parentsOf ls bus) ≡ true → any (subtractive bus) ls ≡ false
-unfolding any subtractive
-subtractive-none bus [] h = refl
-subtractive-none bus (e ∷ ls) h =
-    whether (onBus bus e)
-    (λ o. absurd (false≢true (rw (parentsOf-here bus e ls o) at h)))
-    (λ o. rw (any, subtractive, o) (subtractive-none bus ls (rw (parentsOf-skip bus e ls o) at h)))
-
+-- A bus without a link does not have the subtractive bit (`subtractive-none`),
 -- so it answers by itself,
 answer-own : (a b d : Bool) (k : ℕ) (x y : Seen)
     → let s = cond a Say.no (cond b Say.yes (cond d Say.no Say.undeclared)) in answer s k x ≡ answer s k y

@@ -29,6 +29,7 @@ use Rattle.apics.proofs.claim.Reads as claim
 use Rattle.apics.proofs.wrong_boot.Reads as wrong-boot
 use Rattle.apics.proofs.misplaced.Reads as misplaced
 use Rattle.buses.proofs.list.Reads as list-buses
+use Rattle.buses.proofs.is_listed.Reads as is-listed
 use Rattle.parents.proofs.wrong.Reads as wrong-parents
 use Rattle.interrupts.proofs.wrong.Reads as wrong-interrupts
 use Rattle.spaces.proofs.wrong_mappings.Reads as wrong-mappings
@@ -59,12 +60,18 @@ use Rattle.lines.proofs.frame.default.Reads as default-line
 use Rattle.lines.proofs.frame.refused.Reads as refused-line
 use Rattle.listing.proofs.list.Reads as list-dump
 use Rattle.listing.proofs.print.Reads as print
+use Rattle.routes.proofs.io.Reads as io
+use Rattle.routes.proofs.local.Reads as local
+use Rattle.addresses.proofs.seen.Reads as seen
 use Rattle.writer.proofs.write.Reads as write
 use Rattle.writer.proofs.parts.Reads as parts
 use Rattle.writer.proofs.fields.Reads as fields
 use Rattle.editor.proofs.edit.Reads as edit
 use Rattle.exports.proofs.ruxtajma_judge.Reads as ruxtajma-judge
 use Rattle.exports.proofs.ruxtajma_list.Reads as ruxtajma-list
+use Rattle.exports.proofs.ruxtajma_io_routes.Reads as ruxtajma-io-routes
+use Rattle.exports.proofs.ruxtajma_local_routes.Reads as ruxtajma-local-routes
+use Rattle.exports.proofs.ruxtajma_address.Reads as ruxtajma-address
 use Rattle.exports.proofs.ruxtajma_write.Reads as ruxtajma-write
 use Rattle.exports.proofs.ruxtajma_edit.Reads as ruxtajma-edit
 
@@ -180,6 +187,9 @@ misplaced-determined κ a x y s t p q = p ∙ sym q
 pub list-buses-determined : Answers list-buses.Post
 list-buses-determined κ a x y s t p q = p ∙ sym q
 
+pub is-listed-determined : Answers is-listed.Post
+is-listed-determined κ a x y s t p q = p ∙ sym q
+
 -- ---- parents
 
 pub wrong-parents-determined : Answers wrong-parents.Post
@@ -292,6 +302,19 @@ list-dump-determined κ a x y s t p q = (p .0 ∙ sym (q .0), p .1 ∙ sym (q .1
 pub print-determined : Determines print.Post (λ κ s. now (s .1 .0))
 print-determined κ a x y s t p q = (p .0 ∙ sym (q .0), p .1 ∙ sym (q .1))
 
+-- ---- routes
+
+pub io-determined : Determines io.Post (λ κ s. now (s .1 .1 .1 .1 .0))
+io-determined κ a x y s t p q = (p .0 ∙ sym (q .0), p .1 ∙ sym (q .1))
+
+pub local-determined : Determines local.Post (λ κ s. now (s .1 .1 .1 .1 .0))
+local-determined κ a x y s t p q = (p .0 ∙ sym (q .0), p .1 ∙ sym (q .1))
+
+-- ---- addresses
+
+pub seen-determined : Answers seen.Post
+seen-determined κ a x y s t p q = p ∙ sym q
+
 -- ---- writer
 
 pub write-determined : Determines write.Post (λ κ s. now (s .1 .1 .1 .0))
@@ -315,6 +338,15 @@ ruxtajma-judge-determined κ a x y s t p q = p ∙ sym q
 
 pub ruxtajma-list-determined : Determines ruxtajma-list.Post (λ κ s. now (s .1 .0))
 ruxtajma-list-determined κ a x y s t p q = (p .0 ∙ sym (q .0), p .1 ∙ sym (q .1))
+
+pub ruxtajma-io-routes-determined : Determines ruxtajma-io-routes.Post (λ κ s. now (s .1 .1 .1 .1 .0))
+ruxtajma-io-routes-determined κ a x y s t p q = (p .0 ∙ sym (q .0), p .1 ∙ sym (q .1))
+
+pub ruxtajma-local-routes-determined : Determines ruxtajma-local-routes.Post (λ κ s. now (s .1 .1 .1 .1 .0))
+ruxtajma-local-routes-determined κ a x y s t p q = (p .0 ∙ sym (q .0), p .1 ∙ sym (q .1))
+
+pub ruxtajma-address-determined : Answers ruxtajma-address.Post
+ruxtajma-address-determined κ a x y s t p q = p ∙ sym q
 
 pub ruxtajma-write-determined : Determines ruxtajma-write.Post (λ κ s. now (s .1 .1 .1 .1 .1 .1 .1 .1 .0))
 ruxtajma-write-determined κ a x y s t p q = (p .0 ∙ sym (q .0), p .1 ∙ sym (q .1))

@@ -5,6 +5,8 @@ pub mod Bench
 pub mod Given
 pub mod Judge
 pub mod Climb
+pub mod Routes
+pub mod Addresses
 pub mod Headers
 pub mod Again
 pub mod Edits

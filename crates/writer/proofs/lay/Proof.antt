@@ -1,7 +1,8 @@
 -- Each part begins where the one before it ends, and the seal makes the image of it (`laid`).
 use native.Mathlib.Omega.{arith}
 use borrow.Author.Needs.{needs}
-use Rattle.entries.proofs.Laws.{count-most}
+use Rattle.mps.specs.Layout.{baseEntryLength}
+use Rattle.laws.proofs.Cut.{cut-most}
 use Rattle.writer.specs.Laid.{partsGiven}
 use Rattle.writer.proofs.Laying.{laid}
 use Rattle.writer.proofs.lay.Statement.{statement}
@@ -29,7 +30,7 @@ cast-put-rest : tie.Need-cast-put-rest
 cast-put-rest c =
     let s = c .before .before .before .before .before .before .before .before .before .before .before in
     let b = s .pre .base in
-    omega (arith, count-most 0 (s .args .base .now), c .count .ensures)
+    omega (arith, cut-most baseEntryLength 0 (s .args .base .now), c .count .ensures)
 
 cast-put-rest-2 : tie.Need-cast-put-rest-2
 cast-put-rest-2 c = search needs

@@ -1,0 +1,72 @@
+-- What the rows 14 to 18 say of an accepted table, as facts: those that the queries rest on. Assumes nothing.
+use Prim.Native.Nat.{ℕ, _%_}
+use mathlib.Core.Path.{_≡_, sym, _∙_}
+use mathlib.Core.Bool.{false, not, _||_}
+use mathlib.Core.List.{List}
+use native.Mathlib.Omega.{arith}
+use lib.ListN.{length}
+use lib.Dec.{eqb}
+use Rattle.mps.specs.Words.{among, any, each, every, twice, common, keep}
+use Rattle.mps.specs.Layout.{Entry, ofType, processorType, ioApicType, mappingType, modifierType, everyone, enabled, localApic, localApicStep, extendedBus, baseEntries, extendedEntries}
+use Rattle.mps.specs.Rules.{enabledOf, enabledIds, bootstraps, misplaced, wrongProcessors, wrongIoApics, wrongMapping, wrongHierarchy, wrongModifier, links, circle, wrongSpaces}
+use Rattle.mps.specs.Judge.{tableRules, tableRefusal}
+use Rattle.laws.proofs.Tests.{or-parts}
+use Rattle.laws.proofs.Refusals.{refusal-pass}
+use Rattle.accepted.proofs.Sound.{sound, sound-rest}
+
+-- No two enabled processors have one ID,
+processors-apart : (t : List ℕ) → wrongProcessors t ≡ false → twice (enabledIds processorType (baseEntries t)) ≡ false
+unfolding wrongProcessors
+processors-apart t e =
+    let es = baseEntries t in
+    or-parts
+    (not (eqb (localApic t % localApicStep) 0)
+    || not (eqb (length (bootstraps es)) 1)
+    || not (every enabled (bootstraps es))
+    || among everyone (enabledIds processorType es)) (twice (enabledIds processorType es)) e .1
+
+-- and no two enabled I/O APICs.
+ioapics-apart : (es : List Entry) → wrongIoApics es ≡ false → twice (enabledIds ioApicType es) ≡ false
+unfolding wrongIoApics
+ioapics-apart es e =
+    let ids = enabledIds ioApicType es in
+    let placed = or-parts (among everyone ids || twice ids || common ids (enabledIds processorType es)) (any misplaced (enabledOf ioApicType es)) e in
+    let shared = or-parts (among everyone ids || twice ids) (common ids (enabledIds processorType es)) (placed .0) in
+    or-parts (among everyone ids) (twice ids) (shared .0) .1
+
+-- Every bus has at most one parent, which is listed, and no bus is above itself.
+pub record Parented (es xs : List Entry) : Type 0 where
+  pub listed : any (wrongHierarchy es) (links xs) ≡ false
+  pub one : twice (each extendedBus (links xs)) ≡ false
+  pub rising : circle (links xs) ≡ false
+
+spaces-parented : (es xs : List Entry) → wrongSpaces es xs ≡ false → Parented es xs
+unfolding wrongSpaces
+spaces-parented es xs e =
+    let mapped = any (wrongMapping es) (keep (ofType mappingType) xs) in
+    let linked = any (wrongHierarchy es) (links xs) in
+    let modified = any (wrongModifier es) (keep (ofType modifierType) xs) in
+    let doubled = twice (each extendedBus (links xs)) in
+    let four = or-parts (mapped || linked || modified || doubled) (circle (links xs)) e in
+    let three = or-parts (mapped || linked || modified) doubled (four .0) in
+    let two = or-parts (mapped || linked) modified (three .0) in
+    record { listed = or-parts mapped linked (two .0) .1; one = three .1; rising = four .1 }
+
+pub record Obeyed (t : List ℕ) : Type 0 where
+  pub processors : twice (enabledIds processorType (baseEntries t)) ≡ false
+  pub ioapics : twice (enabledIds ioApicType (baseEntries t)) ≡ false
+  pub parents : Parented (baseEntries t) (extendedEntries t)
+
+pub obeyed : (t : List ℕ) → tableRefusal t ≡ 0 → Obeyed t
+unfolding tableRules
+obeyed t e =
+    let fourteen = refusal-pass 14 _ _ (omega arith) (sym (sound-rest t (sound t e)) ∙ e) in
+    let fifteen = refusal-pass 15 _ _ (omega arith) (fourteen .1) in
+    let sixteen = refusal-pass 16 _ _ (omega arith) (fifteen .1) in
+    let seventeen = refusal-pass 17 _ _ (omega arith) (sixteen .1) in
+    let eighteen = refusal-pass 18 _ _ (omega arith) (seventeen .1) in
+    record {
+      processors = processors-apart t (fourteen .0);
+      ioapics = ioapics-apart (baseEntries t) (sixteen .0);
+      parents = spaces-parented (baseEntries t) (extendedEntries t) (eighteen .0);
+    }

@@ -1,0 +1,105 @@
+-- What the address query answers of a table, between its places. Assumes nothing.
+use Prim.Native.Nat.{ℕ, zero, suc, _-_, _/_, _≤_, _<_}
+use mathlib.Core.Path.{_≡_, refl, ap, _∙_}
+use mathlib.Core.Bool.{true, false, not, _||_, or-true}
+use mathlib.Core.List.{List, [], _∷_}
+use native.Mathlib.Omega.{arith}
+use lib.ListN.{length}
+use lib.Dec.{ltb}
+use borrow.Author.Tests.{lt-ltb, le-ltb}
+use Rattle.mps.specs.Words.{among, keep, each, part, first}
+use Rattle.mps.specs.Refusals.{Rule, _when_, refusal, queryNumber}
+use Rattle.mps.specs.Answers.{seenOf}
+use Rattle.mps.specs.Layout.{ofType, busType, mappingSize, linkSize, entrySize, spaceKindMost, idOf, baseEntries, extendedEntries}
+use Rattle.mps.specs.Rules.{isListed, idsOf, links, parentsOf}
+use Rattle.mps.specs.Sections.{rows}
+use Rattle.mps.specs.Judge.{tableRules, tableRefusal}
+use Rattle.mps.specs.Addresses.{seenBy, addressRules, seen}
+use Rattle.mps.specs.declared.Sections.{Sections}
+use Rattle.mps.specs.declared.Seen.{Seen}
+use Rattle.mps.specs.declared.Seen.the-variants.{Refused}
+use Rattle.laws.proofs.Lists.{among-none, keep-most, length-each, zeros-at}
+use Rattle.laws.proofs.Small.{bytes-part, small-rows}
+use Rattle.laws.proofs.Refusals.{first-some, refusal-append, refusal-stop}
+use Rattle.accepted.proofs.Sound.{entries-most}
+use Rattle.accepted.proofs.Obeyed.{obeyed}
+use Rattle.judge.specs.Placed.{Placed}
+use Rattle.judge.proofs.Laws.{placed-buses}
+use Rattle.addresses.specs.Marks.{meaning, marked, parented, nothing, climbIn}
+use Rattle.addresses.proofs.Marks.{says-highest, marked-types, length-nothing}
+use Rattle.addresses.proofs.Climbs.{parented-byte, bytes-parented, parent-linked, head-some, climb-in}
+
+-- ---- A table, between its places
+
+among-some : (x : ℕ) (ys : List ℕ) → among x ys ≡ true → 1 ≤ length ys
+among-some x [] a = absurd (among-none x a)
+among-some x (y ∷ ys) a = omega arith
+
+module _ (t : List ℕ) (p : Sections) (placed : Placed t p) (a : tableRefusal t ≡ 0) where
+  -- There are no more buses than the two bytes of the header's count can say.
+  pub buses-most : (p .ioapics - p .buses) / entrySize ≤ 65535
+  unfolding idsOf
+  buses-most =
+      let es = baseEntries t in
+      let kept = keep-most (ofType busType) es in
+      let ids = length-each idOf (keep (ofType busType) es) in
+      omega (arith, placed-buses t p placed, ids, kept, entries-most t (placed .bytes) a)
+
+  -- A listed bus is one of them.
+  pub buses-some : (bus : ℕ) → isListed (baseEntries t) bus ≡ true → 1 ≤ (p .ioapics - p .buses) / entrySize
+  unfolding isListed
+  buses-some bus l = rw (← placed-buses t p placed) (among-some bus (idsOf busType (baseEntries t)) l)
+
+  pub seen-climb : (bus kind address : ℕ) → bus < 256
+      → let maps = rows mappingSize (part (p .mappings) (p .links) t) in
+      let ls = rows linkSize (part (p .links) (p .modifiers) t) in
+      let mods = rows linkSize (part (p .modifiers) (p .others) t) in
+      climbIn ((p .ioapics - p .buses) / entrySize - 1)
+      (marked kind address (marked kind address (marked kind address nothing maps) ls) mods) (parented nothing ls) bus 0
+      ≡ seenBy t bus kind address
+  unfolding seenBy links
+  seen-climb bus kind address h =
+      let xs = extendedEntries t in
+      let small = small-rows linkSize (part (p .links) (p .modifiers) t) (bytes-part (p .links) (p .modifiers) t (placed .bytes)) in
+      rw (← placed .mappings, ← placed .links, ← placed .modifiers, ← placed-buses t p placed)
+      (climb-in _ _ _ xs kind address
+      (λ b l. ap meaning (marked-types kind address nothing xs b (rw length-nothing l) (zeros-at 256 b)) ∙ says-highest xs b kind address)
+      (λ b l s. parented-byte nothing (links xs) b (rw length-nothing l) (obeyed t a .parents .one)
+      ∙ head-some _ b (parentsOf (links xs) b) (parent-linked xs b kind address s))
+      (bytes-parented nothing (λ i. rw (zeros-at 256 i) (omega arith)) (rw (placed .links) small))
+      bus 0 h)
+
+-- ---- The query: the table's own number, then 24
+
+refused-of : (n : ℕ) (x : Seen) → (n ≡ 0 → ⊥) → Refused n ≡ seenOf n x
+refused-of zero x z = absurd (z refl)
+refused-of (suc n) x z = refl
+
+module _ (t : List ℕ) (bus kind address : ℕ) where
+  askedRules : List Rule
+  askedRules = queryNumber when (not (isListed (baseEntries t) bus) || ltb spaceKindMost kind) ∷ []
+
+  seen-number : refusal (addressRules t bus kind) ≡ first (tableRefusal t) (refusal askedRules)
+  unfolding addressRules tableRefusal tableRules askedRules among each
+  seen-number = refusal-append (tableRules t) askedRules refl
+
+  pub seen-refused : (n : ℕ) → n ≡ tableRefusal t → (n ≡ 0 → ⊥) → Refused n ≡ seen t bus kind address
+  unfolding seen
+  seen-refused n e z = rw (seen-number, ← e, first-some) (refused-of n _ z)
+
+  pub seen-24 : tableRefusal t ≡ 0 → (not (isListed (baseEntries t) bus) || ltb spaceKindMost kind) ≡ true
+      → Refused queryNumber ≡ seen t bus kind address
+  unfolding seen askedRules
+  seen-24 a q = rw (seen-number, a, refusal-stop queryNumber [] q)
+
+  -- The question's two faults.
+  pub seen-kind : tableRefusal t ≡ 0 → spaceKindMost < kind → Refused queryNumber ≡ seen t bus kind address
+  seen-kind a k = seen-24 a (rw (lt-ltb spaceKindMost kind k) (or-true (not (isListed (baseEntries t) bus))))
+
+  pub seen-unlisted : tableRefusal t ≡ 0 → isListed (baseEntries t) bus ≡ false → Refused queryNumber ≡ seen t bus kind address
+  seen-unlisted a l = seen-24 a (rw l)
+
+  pub seen-answered : tableRefusal t ≡ 0 → isListed (baseEntries t) bus ≡ true → kind ≤ spaceKindMost
+      → seenBy t bus kind address ≡ seen t bus kind address
+  unfolding seen askedRules refusal
+  seen-answered a l k = rw (seen-number, a, l, le-ltb spaceKindMost kind k)

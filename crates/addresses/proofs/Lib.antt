@@ -1,0 +1,5 @@
+pub mod Links
+pub mod Ranks
+pub mod Marks
+pub mod Climbs
+pub mod Laws

@@ -1,0 +1,44 @@
+-- `mapping_rank` meets its contract, by the law of Ranks.antt for each way through the tests.
+use native.Mathlib.Omega.{arith}
+use borrow.Author.Needs.{needs}
+use Rattle.addresses.proofs.Ranks.{mapping-kind, mapping-below, mapping-in, mapping-past}
+use Rattle.addresses.proofs.mapping_rank.Statement.{statement}
+use Rattle.addresses.proofs.mapping_rank.Tie as tie
+
+le64-requires : tie.Need-le64-requires
+le64-requires c κs = search needs
+
+le64-requires-2 : tie.Need-le64-requires-2
+le64-requires-2 c κs = search needs
+
+shared-slice-read-if1 : tie.Need-shared-slice-read-if1
+shared-slice-read-if1 c = search needs
+
+returns : tie.Need-returns
+returns c = mapping-kind _ (c .before .before .before .before .before .pre .1) _ _ (c .if1 .taken)
+
+returns-2 : tie.Need-returns-2
+returns-2 c =
+    mapping-below _ (c .before .before .before .before .before .before .pre .1) _ _ (c .before .if1 .left) (omega arith)
+
+returns-3 : tie.Need-returns-3
+returns-3 c =
+    mapping-in _ (c .before .before .before .before .before .before .before .pre .1) _ _
+    (c .before .before .if1 .left) (omega arith) (omega arith)
+
+returns-4 : tie.Need-returns-4
+returns-4 c =
+    mapping-past _ (c .before .before .before .before .before .before .before .pre .1) _ _
+    (c .before .before .if1 .left) (omega arith) (omega arith)
+
+pub mapping-rank-spec : {M : Type 1} → statement M
+mapping-rank-spec =
+    tie.close
+    (tie.spec
+    le64-requires
+    le64-requires-2
+    shared-slice-read-if1
+    returns
+    returns-2
+    returns-3
+    returns-4)

@@ -1,0 +1,112 @@
+-- `mark` meets its contract. The loop's invariant: the rows that are left make of the list what all rows make of it at
+-- the start.
+use Prim.Native.Nat.{_-_, _≤_}
+use mathlib.Core.Path.{_≡_, refl, sym, _∙_}
+use native.Mathlib.Omega.{arith}
+use lib.ListN.{length, drop, length-set}
+use borrow.Author.Needs.{needs}
+use Rattle.mps.specs.Sections.{rows}
+use Rattle.addresses.specs.Marks.{marked}
+use Rattle.addresses.proofs.Ranks.{marked-done, marked-next}
+use Rattle.addresses.proofs.mark.Statement.{statement}
+use Rattle.addresses.proofs.mark.Tie as tie
+
+abbrev Inv-loop : tie.InvT-loop
+Inv-loop marks₀ s size kind address lists at₀ marks at =
+    (marked kind address marks (rows size (drop at s)) ≡ marked kind address marks₀ (rows size s))
+    × (at ≤ length s)
+    × (length marks ≡ 256)
+
+abbrev μ-loop : tie.MeasureT-loop
+μ-loop marks₀ s size kind address lists at₀ marks at = length s - at
+
+loop-holds : tie.Need-loop-holds Inv-loop μ-loop
+loop-holds c = (refl, omega arith, c .before .before .pre .1)
+
+sub-loop : tie.Need-sub-loop Inv-loop μ-loop
+sub-loop c = search needs
+
+add-wide : tie.Need-add-wide Inv-loop μ-loop
+add-wide c = search needs
+
+shared-slice-read-wide : tie.Need-shared-slice-read-wide Inv-loop μ-loop
+shared-slice-read-wide c = search needs
+
+wide-requires : tie.Need-wide-requires Inv-loop μ-loop
+wide-requires c κs = search needs
+
+add-rank : tie.Need-add-rank Inv-loop μ-loop
+add-rank c = search needs
+
+sub-rank : tie.Need-sub-rank Inv-loop μ-loop
+sub-rank c = search needs
+
+part-rank-start : tie.Need-part-rank-start Inv-loop μ-loop
+part-rank-start c = search needs
+
+part-rank-end : tie.Need-part-rank-end Inv-loop μ-loop
+part-rank-end c = search needs
+
+rank-requires : tie.Need-rank-requires Inv-loop μ-loop
+rank-requires c κs = search needs
+
+slice-read-higher : tie.Need-slice-read-higher Inv-loop μ-loop
+slice-read-higher c = search needs
+
+higher-requires : tie.Need-higher-requires Inv-loop μ-loop
+higher-requires c κs = search needs
+
+slice-write-marks : tie.Need-slice-write-marks Inv-loop μ-loop
+slice-write-marks c = search needs
+
+add-at : tie.Need-add-at Inv-loop μ-loop
+add-at c = search needs
+
+loop-less : tie.Need-loop-less Inv-loop μ-loop
+loop-less c = search needs
+
+loop-again : tie.Need-loop-again Inv-loop μ-loop
+loop-again c =
+    let l = c .before .before .before .before .before .before .before .loop in
+    let a = c .before .before .before .before .before .before .before .before .before .before .args in
+    let w = c .before .before .before .before .wide in
+    let r = c .before .before .rank in
+    let next = marked-next (a .size) (a .s .now) (l .at) (omega arith) (omega arith) (omega arith)
+    (w .result) (w .ensures .0) (a .kind) (a .address) (l .marks)
+    (r .result) (c .higher .result) (r .ensures) (c .higher .ensures) in
+    (sym next ∙ l .inv .0, omega arith, rw length-set (l .inv .2))
+
+same-length : tie.Need-same-length Inv-loop μ-loop
+same-length c = search needs
+
+returns : tie.Need-returns Inv-loop μ-loop
+returns c =
+    let l = c .before .loop in
+    let a = c .before .before .before .before .args in
+    sym (marked-done (a .size) (a .s .now) (l .at) (omega arith) (omega arith) (a .kind) (a .address) (l .marks))
+    ∙ l .inv .0
+
+pub mark-spec : {M : Type 1} → statement M
+mark-spec =
+    tie.close
+    (tie.spec
+    Inv-loop
+    μ-loop
+    loop-holds
+    sub-loop
+    add-wide
+    shared-slice-read-wide
+    wide-requires
+    add-rank
+    sub-rank
+    part-rank-start
+    part-rank-end
+    rank-requires
+    slice-read-higher
+    higher-requires
+    slice-write-marks
+    add-at
+    loop-less
+    loop-again
+    same-length
+    returns)

@@ -1,0 +1,42 @@
+-- `rank` meets its contract: what the function of the entry's type answers.
+use borrow.Author.Needs.{needs}
+use Rattle.addresses.proofs.Ranks.{rank-other}
+use Rattle.addresses.proofs.rank.Statement.{statement}
+use Rattle.addresses.proofs.rank.Tie as tie
+
+shared-slice-read-found : tie.Need-shared-slice-read-found
+shared-slice-read-found c = search needs
+
+mapping-rank-requires : tie.Need-mapping-rank-requires
+mapping-rank-requires c κs = search needs
+
+returns : tie.Need-returns
+returns c = c .mapping-rank .ensures
+
+link-rank-requires : tie.Need-link-rank-requires
+link-rank-requires c κs = search needs
+
+returns-2 : tie.Need-returns-2
+returns-2 c = c .link-rank .ensures _ _
+
+modifier-rank-requires : tie.Need-modifier-rank-requires
+modifier-rank-requires c κs = search needs
+
+returns-3 : tie.Need-returns-3
+returns-3 c = c .modifier-rank .ensures _ _ (c .before .before .before .before .before .before .pre .1)
+
+returns-4 : tie.Need-returns-4
+returns-4 c = rank-other _ _ _ (c .before .before .if1 .left) (c .before .if2 .left) (c .if3 .left)
+
+pub rank-spec : {M : Type 1} → statement M
+rank-spec =
+    tie.close
+    (tie.spec
+    shared-slice-read-found
+    mapping-rank-requires
+    returns
+    link-rank-requires
+    returns-2
+    modifier-rank-requires
+    returns-3
+    returns-4)

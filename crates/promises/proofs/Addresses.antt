@@ -1,0 +1,211 @@
+-- Demand 2, of the addresses seen by a bus: "the parent's answer" is the answer that the parent gives, with one link more;
+-- the links of an answer are those climbed, at most the listed buses less one. The numbers of an address query, "given
+-- exactly when". Assumes nothing.
+use Prim.Native.Nat.{ℕ, zero, suc, _+_, _-_, _<_, _≤_}
+use mathlib.Core.Path.{_≡_, refl, sym, ap, _∙_}
+use mathlib.Core.Bool.{true, false, not, _||_}
+use mathlib.Core.Logic.{_↔_}
+use mathlib.Core.List.{List, [], _∷_}
+use native.Mathlib.Nat.{zero-add, add-zero}
+use native.Mathlib.Numerals.{add-one}
+use native.Mathlib.Omega.{arith}
+use lib.ListN.{length}
+use lib.Dec.{ltb}
+use borrow.Author.Tests.{not-false}
+use Rattle.mps.specs.Words.{among, keep, any, each, none, head}
+use Rattle.mps.specs.Refusals.{_when_, refusal}
+use Rattle.mps.specs.Layout.{Entry, busType, spaceKindMost, extendedBus, parentBus, baseEntries, extendedEntries}
+use Rattle.mps.specs.Rules.{isListed, idsOf, links, onBus, parentsOf, wrongHierarchy}
+use Rattle.mps.specs.Judge.{tableRules, tableRefusal}
+use Rattle.mps.specs.Addresses.{Say, says, answer, climb, seenBy, addressRules, seen}
+use Rattle.mps.specs.Answers.{seenOf, seenNumbers}
+use Rattle.mps.specs.declared.Seen.{Seen}
+use Rattle.mps.specs.declared.Seen.the-variants.{No, Yes, Undeclared, Refused}
+use Rattle.laws.proofs.Tests.{whether, or-parts}
+use Rattle.laws.proofs.Refusals.{given-exactly}
+use Rattle.laws.proofs.Circle.{parentsOf-here, parentsOf-skip}
+use Rattle.accepted.proofs.Obeyed.{obeyed}
+use Rattle.promises.proofs.Given.{Exactly, given-before}
+use Rattle.addresses.proofs.Links.{linksOf, links-bound}
+use Rattle.addresses.proofs.Climbs.{parent-linked, answer-above}
+use Rattle.addresses.proofs.Laws.{seen-answered}
+use Rattle.promises.proofs.Climb.{seen-enough}
+
+-- ---- The links climbed
+
+-- The bus that so many links lead to.
+unfoldable pub above : List Entry → ℕ → ℕ → ℕ
+above ls zero bus = bus
+above ls (suc k) bus = above ls k (head bus (parentsOf ls bus))
+
+-- What a bus answers by itself, after so many links.
+abbrev pub own : Say → ℕ → Seen
+own s k = answer s k (Undeclared k)
+
+-- The links of an answer are those climbed: each bus on the way asked its parent, and the one they lead to answers by itself.
+pub record Climbed (t : List ℕ) (bus kind address : ℕ) (r : Seen) : Type 0 where
+  pub asks : (k : ℕ) → k < linksOf r → says (extendedEntries t) (above (links (extendedEntries t)) k bus) kind address ≡ Say.parent
+  pub answers : r ≡ own (says (extendedEntries t) (above (links (extendedEntries t)) (linksOf r) bus) kind address) (linksOf r)
+
+-- The same of a climb, with the links climbed before.
+record Way (xs : List Entry) (bus kind address before : ℕ) (r : Seen) : Type 0 where
+  more : ℕ
+  counted : linksOf r ≡ before + more
+  asks : (k : ℕ) → k < more → says xs (above (links xs) k bus) kind address ≡ Say.parent
+  answers : r ≡ own (says xs (above (links xs) more bus) kind address) (before + more)
+
+links-own : (s : Say) (k : ℕ) → linksOf (own s k) ≡ k
+links-own Say.no k = refl
+links-own Say.yes k = refl
+links-own Say.parent k = refl
+links-own Say.undeclared k = refl
+
+module _ (xs : List Entry) (kind address : ℕ) where
+  -- A bus that answers by itself,
+  way-own : (bus k : ℕ) (s : Say) (r : Seen) → says xs bus kind address ≡ s → r ≡ own s k → Way xs bus kind address k r
+  unfolding above
+  way-own bus k s r e q =
+      record {
+        more = 0;
+        counted = rw q (links-own s k ∙ sym (add-zero k));
+        asks = λ j h. absurd (omega arith);
+        answers = rw (e, add-zero k) q;
+      }
+
+  -- and one that asks its parent.
+  way-up : (bus k : ℕ) (r : Seen) → says xs bus kind address ≡ Say.parent
+      → Way xs (head bus (parentsOf (links xs) bus)) kind address (k + 1) r → Way xs bus kind address k r
+  unfolding above
+  way-up bus k r e w =
+      record {
+        more = suc (w .more);
+        counted = w .counted ∙ moved (w .more);
+        asks = asks;
+        answers = rw (← moved (w .more)) (w .answers);
+      }
+    where
+      moved : (m : ℕ) → k + 1 + m ≡ k + suc m
+      moved m = omega arith
+
+      asks : (j : ℕ) → j < suc (w .more) → says xs (above (links xs) j bus) kind address ≡ Say.parent
+      asks zero h = e
+      asks (suc j) h = w .asks j (omega arith)
+
+  -- The one or the other.
+  way-said : (bus k : ℕ) (s : Say) (r : Seen) → says xs bus kind address ≡ s
+      → Way xs (head bus (parentsOf (links xs) bus)) kind address (k + 1) r → Way xs bus kind address k (answer s k r)
+  way-said bus k Say.no r e w = way-own bus k Say.no _ e refl
+  way-said bus k Say.yes r e w = way-own bus k Say.yes _ e refl
+  way-said bus k Say.parent r e w = way-up bus k r e w
+  way-said bus k Say.undeclared r e w = way-own bus k Say.undeclared _ e refl
+
+  way : (left bus k : ℕ) → Way xs bus kind address k (climb left xs bus kind address k)
+  unfolding climb
+  way zero bus k = way-own bus k (says xs bus kind address) _ refl refl
+  way (suc left) bus k =
+      way-said bus k (says xs bus kind address) _ refl (way left (head bus (parentsOf (links xs) bus)) (k + 1))
+
+pub seen-climbed : (t : List ℕ) (bus kind address : ℕ) → Climbed t bus kind address (seenBy t bus kind address)
+unfolding seenBy
+seen-climbed t bus kind address =
+    let w = way (extendedEntries t) kind address (length (idsOf busType (baseEntries t)) - 1) bus 0 in
+    let m = w .counted ∙ zero-add (w .more) in
+    record { asks = λ k h. w .asks k (rw m at h); answers = rw m (rw (zero-add (w .more)) at (w .answers)) }
+
+-- "by the definition that is at most the listed buses less one"
+pub seen-links : (t : List ℕ) (bus kind address : ℕ) → linksOf (seen t bus kind address) ≤ length (idsOf busType (baseEntries t)) - 1
+seen-links t bus kind address = links-bound t bus kind address
+
+-- ---- The parent's answer
+
+-- The same answer with one link more.
+abbrev pub onward : Seen → Seen
+onward (No k) = No (k + 1)
+onward (Yes k) = Yes (k + 1)
+onward (Undeclared k) = Undeclared (k + 1)
+onward (Refused n) = Refused n
+
+-- A climb that began one link further answers the same with one link more.
+onward-answer : (s : Say) (k : ℕ) (x y : Seen) → x ≡ onward y → answer s (k + 1) x ≡ onward (answer s k y)
+onward-answer Say.no k x y e = refl
+onward-answer Say.yes k x y e = refl
+onward-answer Say.parent k x y e = e
+onward-answer Say.undeclared k x y e = refl
+
+climb-onward : (left : ℕ) (xs : List Entry) (bus kind address k : ℕ)
+    → climb left xs bus kind address (k + 1) ≡ onward (climb left xs bus kind address k)
+unfolding climb
+climb-onward zero xs bus kind address k = onward-answer (says xs bus kind address) k _ _ refl
+climb-onward (suc left) xs bus kind address k =
+    onward-answer (says xs bus kind address) k _ _ (climb-onward left xs (head bus (parentsOf (links xs) bus)) kind address (k + 1))
+
+-- A bus that has a parent has a listed one.
+parent-listed : (es ls : List Entry) (bus : ℕ) → any (wrongHierarchy es) ls ≡ false → (none (parentsOf ls bus) ≡ true → ⊥)
+    → isListed es (head bus (parentsOf ls bus)) ≡ true
+unfolding any wrongHierarchy parentsOf keep each
+parent-listed es [] bus w n = absurd (n refl)
+parent-listed es (e ∷ ls) bus w n =
+    let h = or-parts (wrongHierarchy es e) (any (wrongHierarchy es) ls) w in
+    let p = or-parts (not (isListed es (extendedBus e))) (not (isListed es (parentBus e))) (h .0) in
+    whether (onBus bus e)
+    (λ o. rw (parentsOf-here bus e ls o) (not-false (isListed es (parentBus e)) (p .1)))
+    (λ o. rw (parentsOf-skip bus e ls o) (parent-listed es ls bus (h .1) (rw (parentsOf-skip bus e ls o) at n)))
+
+-- "first that applies", of an accepted table, a listed bus and a kind: no, yes, the parent's answer, no, else undeclared.
+pub seen-says : (t : List ℕ) (bus kind address : ℕ) → tableRefusal t ≡ 0 → isListed (baseEntries t) bus ≡ true → kind ≤ spaceKindMost
+    → seen t bus kind address
+    ≡ answer (says (extendedEntries t) bus kind address) 0
+    (onward (seen t (head bus (parentsOf (links (extendedEntries t)) bus)) kind address))
+unfolding climb seenBy
+seen-says t bus kind address a l k =
+    let es = baseEntries t in
+    let xs = extendedEntries t in
+    let left = length (idsOf busType es) - 1 in
+    let up = head bus (parentsOf (links xs) bus) in
+    let o = obeyed t a .parents in
+    sym (seen-answered t bus kind address a l k)
+    ∙ sym (seen-enough es xs (o .listed) (o .rising) bus l kind address 1)
+    ∙ rw (add-one left)
+    (answer-above (says xs bus kind address) 0
+    (λ e. climb-onward left xs up kind address 0
+    ∙ ap onward (seen-answered t up kind address a (parent-listed es (links xs) bus (o .listed) (parent-linked xs bus kind address e)) k)))
+
+-- ---- The numbers
+
+numberOf : Seen → ℕ
+numberOf r = head 0 (seenNumbers r)
+
+number-answer : (s : Say) (k : ℕ) (above : Seen) → numberOf above ≡ 0 → numberOf (answer s k above) ≡ 0
+unfolding numberOf
+number-answer Say.no k above e = refl
+number-answer Say.yes k above e = refl
+number-answer Say.parent k above e = e
+number-answer Say.undeclared k above e = refl
+
+number-climb : (left : ℕ) (xs : List Entry) (bus kind address k : ℕ) → numberOf (climb left xs bus kind address k) ≡ 0
+unfolding climb numberOf
+number-climb zero xs bus kind address k = number-answer (says xs bus kind address) k (Undeclared k) refl
+number-climb (suc left) xs bus kind address k =
+    number-answer (says xs bus kind address) k _ (number-climb left xs (head bus (parentsOf (links xs) bus)) kind address (k + 1))
+
+-- The number of an answer is the refusal's: a climb refuses nothing.
+number-of : (n left : ℕ) (xs : List Entry) (bus kind address k : ℕ) → numberOf (seenOf n (climb left xs bus kind address k)) ≡ n
+unfolding numberOf
+number-of zero left xs bus kind address k = number-climb left xs bus kind address k
+number-of (suc n) left xs bus kind address k = refl
+
+module _ (t : List ℕ) (bus kind address : ℕ) where
+  -- A refusal is answered with its number.
+  pub seen-refused : (n : ℕ) → (seen t bus kind address ≡ Refused (suc n)) ↔ (refusal (addressRules t bus kind) ≡ suc n)
+  unfolding seen seenBy numberOf
+  seen-refused n = (λ e. sym (number-of (refusal (addressRules t bus kind)) (length (idsOf busType (baseEntries t)) - 1) (extendedEntries t) bus kind address 0) ∙ ap numberOf e, λ e. rw e)
+
+  -- The table's own, before all else.
+  pub address-table : (n : ℕ) → 0 < n → among n (24 ∷ []) ≡ false → (refusal (addressRules t bus kind) ≡ n) ↔ (tableRefusal t ≡ n)
+  unfolding addressRules tableRefusal tableRules among each
+  address-table n p q = given-before (tableRules t) (24 when (not (isListed (baseEntries t) bus) || ltb spaceKindMost kind) ∷ []) refl n p q
+
+  -- 24: "query: bus not listed, address kind over 2"
+  pub address-24 : Exactly (refusal (addressRules t bus kind)) 24 (tableRules t) (not (isListed (baseEntries t) bus) || ltb spaceKindMost kind)
+  unfolding addressRules tableRules among each
+  address-24 = given-exactly (tableRules t) 24 (not (isListed (baseEntries t) bus) || ltb spaceKindMost kind) [] (omega arith) refl refl

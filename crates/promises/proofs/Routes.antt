@@ -1,0 +1,354 @@
+-- Demand 2: "The listing, the routes and the addresses seen by a bus are those the table declares", of the routes: a pair is
+-- in the answer exactly when two entries of the table declare it, and the pairs stand in the order of the table. The numbers
+-- of a route query, "given exactly when". Assumes nothing.
+use Prim.Native.Nat.{ℕ, zero, suc, _+_, _-_, _*_, _/_, _^_, _<_, _≤_}
+use mathlib.Core.Path.{_≡_, refl, sym, ap, _∙_}
+use mathlib.Core.Bool.{Bool, true, false, not, _||_, _&&_, true≢false, false≢true}
+use mathlib.Core.Logic.{_↔_}
+use mathlib.Core.List.{List, [], _∷_, _++_}
+use native.Mathlib.Nat.{sub-zero, suc-mul, mul-le-mul}
+use native.Mathlib.Omega.{arith}
+use lib.ListN.{length, getD, take, drop, length-append, List·getD-append}
+use lib.Dec.{ltb, eqb}
+use borrow.Author.Tests.{ne-eqb, ltb-true, ltb-false}
+use Rattle.mps.specs.Words.{byte, among, keep, each, only, joined, head}
+use Rattle.mps.specs.Refusals.{_when_, refusal}
+use Rattle.mps.specs.Layout.{Entry, ofType, interruptTypeMost, enabled, idOf, input, baseEntries}
+use Rattle.mps.specs.Rules.{Side, enabledOf, isListed}
+use Rattle.mps.specs.Judge.{tableRules, tableRefusal}
+use Rattle.mps.specs.Routes.{matches, names, pairSize, pair, pairsTo, routes, routesOf, routeRules, routeRefusal, routed, routesLeft}
+use Rattle.mps.specs.Answers.{routedOf, routedNumbers}
+use Rattle.mps.specs.declared.Routed.{Routed}
+use Rattle.mps.specs.declared.Routed.the-variants.{Pairs, Refused}
+use Rattle.laws.proofs.Tests.{whether}
+use Rattle.laws.proofs.Lists.{keep-keep, joined-same}
+use Rattle.laws.proofs.Small.{Bytes}
+use Rattle.laws.proofs.Refusals.{first-none, refusal-append, given-exactly}
+use Rattle.accepted.proofs.Sound.{entries-most}
+use Rattle.promises.specs.Declared.{target, declares, declared, Route, Stands}
+use Rattle.promises.proofs.Given.{Exactly, given-before}
+
+-- ---- In order
+
+-- What is made of the elements that pass a test is made of all, and of the others nothing.
+joined-keep : {A B : Type 0} (f : A → List B) (p : A → Bool) (xs : List A) → joined f (keep p xs) ≡ joined (λ (x : A). only (p x) (f x)) xs
+unfolding joined keep
+joined-keep f p [] = refl
+joined-keep f p (x ∷ xs) = whether (p x) (λ e. rw (e, keep, joined, joined-keep f p xs)) (λ e. rw (e, keep, joined-keep f p xs))
+
+joined-each : {A B C : Type 0} (f : B → List C) (g : A → B) (xs : List A) → joined f (each g xs) ≡ joined (λ (x : A). f (g x)) xs
+unfolding joined each
+joined-each f g [] = refl
+joined-each f g (x ∷ xs) = rw (joined-each f g xs)
+
+joined-nothing : {A B : Type 0} (xs : List A) → joined {A = A} {B = B} (λ (x : A). []) xs ≡ []
+unfolding joined
+joined-nothing [] = refl
+joined-nothing (x ∷ xs) = joined-nothing xs
+
+-- A test before them all is a test of each.
+joined-only : {A B : Type 0} (b : Bool) (p : A → Bool) (f : A → List B) (xs : List A)
+    → only b (joined (λ (x : A). only (p x) (f x)) xs) ≡ joined (λ (x : A). only (b && p x) (f x)) xs
+joined-only true p f xs = refl
+joined-only false p f xs = sym (joined-nothing xs)
+
+pub routes-declared : (side : Side) (es : List Entry) (itype bus irq : ℕ) → routes side es itype bus irq ≡ declared side itype bus irq es
+unfolding routes declared pairsTo enabledOf declares target
+routes-declared side es itype bus irq =
+    joined-keep (pairsTo (enabledOf (side .targets) es)) (matches side itype bus irq) es
+    ∙ joined-same _ _ (λ e.
+    ap (only (matches side itype bus irq e))
+    (joined-each (pair e) idOf (keep (names e) (enabledOf (side .targets) es))
+    ∙ ap (λ (l : List Entry). joined (λ (a : Entry). pair e (idOf a)) (keep (names e) l)) (keep-keep enabled (ofType (side .targets)) es)
+    ∙ ap (joined (λ (a : Entry). pair e (idOf a))) (keep-keep (names e) (target side) es)
+    ∙ joined-keep (λ (a : Entry). pair e (idOf a)) (λ (a : Entry). target side a && names e a) es)
+    ∙ joined-only (matches side itype bus irq e) (λ (a : Entry). target side a && names e a) (λ (a : Entry). pair e (idOf a)) es) es
+
+-- ---- Exactly those
+
+-- Bytes that are pairs, and a pair among them.
+abbrev Even : List ℕ → Type 0
+Even s = (m : ℕ) × (length s ≡ m * 2)
+
+record Held (s : List ℕ) (id into : ℕ) : Type 0 where
+  place : ℕ
+  there : place * 2 + 2 ≤ length s
+  first : byte s (place * 2) ≡ id
+  second : byte s (place * 2 + 1) ≡ into
+
+byte-right : (a b : List ℕ) (i : ℕ) → length a ≤ i → byte (a ++ b) i ≡ byte b (i - length a)
+byte-right [] b i h = rw (sub-zero i)
+byte-right (x ∷ a) b zero h = absurd (omega arith)
+byte-right (x ∷ a) b (suc i) h = byte-right a b i (omega arith) ∙ ap (byte b) (omega arith)
+
+module _ (a b : List ℕ) (id into : ℕ) where
+  held-left : Held a id into → Held (a ++ b) id into
+  held-left h =
+      let t = h .there in
+      record {
+        place = h .place;
+        there = rw (length-append a b) (omega arith);
+        first = List·getD-append a b 0 (h .place * 2) (omega arith) ∙ h .first;
+        second = List·getD-append a b 0 (h .place * 2 + 1) (omega arith) ∙ h .second;
+      }
+
+  held-right : Even a → Held b id into → Held (a ++ b) id into
+  held-right e h =
+      let t = h .there in
+      let q = e .1 in
+      record {
+        place = e .0 + h .place;
+        there = rw (length-append a b) (omega arith);
+        first = byte-right a b ((e .0 + h .place) * 2) (omega arith) ∙ ap (byte b) (omega arith) ∙ h .first;
+        second = byte-right a b ((e .0 + h .place) * 2 + 1) (omega arith) ∙ ap (byte b) (omega arith) ∙ h .second;
+      }
+
+  held-cases : {C : Type 0} → Even a → Held (a ++ b) id into → (Held a id into → C) → (Held b id into → C) → C
+  held-cases e h f g =
+      let t = rw (length-append a b) at (h .there) in
+      let q = e .1 in
+      whether (ltb (h .place) (e .0))
+      (λ l. let k = ltb-true (h .place) (e .0) l in
+      f (record {
+        place = h .place;
+        there = omega arith;
+        first = sym (List·getD-append a b 0 (h .place * 2) (omega arith)) ∙ h .first;
+        second = sym (List·getD-append a b 0 (h .place * 2 + 1) (omega arith)) ∙ h .second;
+      }))
+      (λ l. let k = ltb-false (h .place) (e .0) l in
+      g (record {
+        place = h .place - e .0;
+        there = omega arith;
+        first = sym (byte-right a b (h .place * 2) (omega arith) ∙ ap (byte b) (omega arith)) ∙ h .first;
+        second = sym (byte-right a b (h .place * 2 + 1) (omega arith) ∙ ap (byte b) (omega arith)) ∙ h .second;
+      }))
+
+held-none : {C : Type 0} (id into : ℕ) → Held [] id into → C
+held-none id into h = let t = h .there in absurd (omega arith)
+
+-- Among what is made of each element: at some place of the list.
+record At {A : Type 0} (f : A → List ℕ) (d : A) (xs : List A) (id into : ℕ) : Type 0 where
+  place : ℕ
+  there : place < length xs
+  held : Held (f (getD xs place d)) id into
+
+module _ {A : Type 0} (f : A → List ℕ) (even : (x : A) → Even (f x)) (d : A) (id into : ℕ) where
+  even-joined : (xs : List A) → Even (joined f xs)
+  unfolding joined
+  even-joined [] = (0, refl)
+  even-joined (x ∷ xs) =
+      let p = even x in
+      let q = even-joined xs in
+      (p .0 + q .0, length-append (f x) (joined f xs) ∙ omega (arith, p .1, q .1))
+
+  held-at : (xs : List A) → Held (joined f xs) id into → At f d xs id into
+  unfolding joined
+  held-at [] h = held-none id into h
+  held-at (x ∷ xs) h =
+      held-cases (f x) (joined f xs) id into (even x) h
+      (λ l. record { place = 0; there = omega arith; held = l })
+      (λ r. let k = held-at xs r in record { place = suc (k .place); there = omega (arith, k .there); held = k .held })
+
+  at-held : (xs : List A) (i : ℕ) → i < length xs → Held (f (getD xs i d)) id into → Held (joined f xs) id into
+  unfolding joined
+  at-held [] i h k = absurd (omega arith)
+  at-held (x ∷ xs) zero h k = held-left (f x) (joined f xs) id into k
+  at-held (x ∷ xs) (suc i) h k = held-right (f x) (joined f xs) id into (even x) (at-held xs i (omega arith) k)
+
+-- One pair, where a test holds.
+pair-even : (b : Bool) (e : Entry) (id : ℕ) → Even (only b (pair e id))
+unfolding pair
+pair-even true e id = (1, refl)
+pair-even false e id = (0, refl)
+
+pair-held : (b : Bool) (e : Entry) (own id into : ℕ) → Held (only b (pair e own)) id into → (b ≡ true) × (own ≡ id) × (input e ≡ into)
+unfolding pair
+pair-held false e own id into h = held-none id into h
+pair-held true e own id into h =
+    let z : h .place ≡ 0 = omega (arith, h .there) in
+    (refl, rw z at (h .first), rw z at (h .second))
+
+held-pair : (b : Bool) (e : Entry) (own id into : ℕ) → b ≡ true → own ≡ id → input e ≡ into → Held (only b (pair e own)) id into
+unfolding pair
+held-pair b e own id into t p q = rw t (record { place = 0; there = omega arith; first = p; second = q })
+
+module _ (side : Side) (itype bus irq : ℕ) where
+  one : Entry → Entry → List ℕ
+  one e a = only (declares side itype bus irq e a) (pair e (idOf a))
+
+  one-even : (e a : Entry) → Even (one e a)
+  unfolding one
+  one-even e a = pair-even (declares side itype bus irq e a) e (idOf a)
+
+module _ (side : Side) (itype bus irq : ℕ) (es : List Entry) where
+  line-even : (id into : ℕ) (e : Entry) → Even (joined (one side itype bus irq e) es)
+  line-even id into e = even-joined (one side itype bus irq e) (one-even side itype bus irq e) [] id into es
+
+  declared-even : Even (declared side itype bus irq es)
+  unfolding declared one
+  declared-even = even-joined (λ (e : Entry). joined (one side itype bus irq e) es) (line-even 0 0) [] 0 0 es
+
+  declared-exactly : (id into : ℕ) → Held (declared side itype bus irq es) id into ↔ Route side itype bus irq es id into
+  unfolding declared one
+  declared-exactly id into =
+      let line : Entry → List ℕ = λ (e : Entry). joined (one side itype bus irq e) es in
+      let even = line-even id into in (
+        λ h.
+            let i = held-at line even [] id into es h in
+            let j = held-at (one side itype bus irq (getD es (i .place) [])) (one-even side itype bus irq (getD es (i .place) [])) [] id into es (i .held) in
+            let k = pair-held _ (getD es (i .place) []) (idOf (getD es (j .place) [])) id into (j .held) in
+            record {
+              line = i .place;
+              apic = j .place;
+              line-there = i .there;
+              apic-there = j .there;
+              route = k .0;
+              named = k .1;
+              driven = k .2;
+            },
+        λ r.
+            let e = getD es (r .line) [] in
+            at-held line even [] id into es (r .line) (r .line-there)
+            (at-held (one side itype bus irq e) (one-even side itype bus irq e) [] id into es (r .apic) (r .apic-there)
+            (held-pair _ e (idOf (getD es (r .apic) [])) id into (r .route) (r .named) (r .driven))),
+      )
+
+-- ---- The calls: each that a contract allows answers `routed` and leaves `routesLeft`
+
+countOf : Routed → ℕ
+countOf (Pairs n) = n
+countOf (Refused n) = 0
+
+isPairs : Routed → Bool
+isPairs (Pairs n) = true
+isPairs (Refused n) = false
+
+pairs-told : (m count n : ℕ) → routedOf m count ≡ Pairs n → (m ≡ 0) × (count ≡ n)
+unfolding countOf isPairs
+pairs-told zero count n e = (refl, ap countOf e)
+pairs-told (suc m) count n e = absurd (false≢true (ap isPairs e))
+
+module _ (side : Side) (t : List ℕ) (itype bus irq : ℕ) (room : List ℕ) {n : ℕ} (r : routed side t itype bus irq room ≡ Pairs n) where
+  -- The count is that of the pairs.
+  pub routes-count : length (declared side itype bus irq (baseEntries t)) ≡ n * pairSize
+  unfolding routed routesOf
+  routes-count =
+      let es = baseEntries t in
+      let k = pairs-told (routeRefusal side t itype bus irq room) (length (routesOf side t itype bus irq) / 2) n r .1 in
+      let d = declared-even side itype bus irq es in
+      omega (arith, d .1, rw (routes-declared side es itype bus irq) at k)
+
+  -- The pairs of an answer stand from the room's first byte on, in the order of the table; what lies past them stays.
+  pub routes-in-order : routesLeft side t itype bus irq room ≡ declared side itype bus irq (baseEntries t) ++ drop (n * pairSize) room
+  unfolding routed routesLeft routesOf
+  routes-in-order =
+      let k = pairs-told (routeRefusal side t itype bus irq room) (length (routesOf side t itype bus irq) / 2) n r .0 in
+      rw (k, routes-declared side (baseEntries t) itype bus irq, routes-count)
+
+  -- A pair is in the answer exactly when some matching entry names that enabled one with that input.
+  pub routes-exactly : (id into : ℕ) → Stands n (routesLeft side t itype bus irq room) id into ↔ Route side itype bus irq (baseEntries t) id into
+  routes-exactly id into =
+      let es = baseEntries t in
+      let all = declared side itype bus irq es in
+      let rest = drop (n * 2) room in
+      let d = declared-exactly side itype bus irq es id into in
+      let c = routes-count in (
+        λ s.
+            let h = s .there in
+            d .0 (record {
+              place = s .place;
+              there = omega arith;
+              first = sym (List·getD-append all rest 0 (s .place * 2) (omega arith)) ∙ rw routes-in-order at (s .first);
+              second = sym (List·getD-append all rest 0 (s .place * 2 + 1) (omega arith)) ∙ rw routes-in-order at (s .second);
+            }),
+        λ q.
+            let k = d .1 q in
+            let h = k .there in
+            record {
+              place = k .place;
+              there = omega arith;
+              first = rw routes-in-order (List·getD-append all rest 0 (k .place * 2) (omega arith) ∙ k .first);
+              second = rw routes-in-order (List·getD-append all rest 0 (k .place * 2 + 1) (omega arith) ∙ k .second);
+            },
+      )
+
+-- ---- As one number for C
+
+joined-most : (f : Entry → List ℕ) (m : ℕ) → ((e : Entry) → length (f e) ≤ m) → (es : List Entry) → length (joined f es) ≤ length es * m
+unfolding joined
+joined-most f m h [] = omega arith
+joined-most f m h (e ∷ es) =
+    rw (length-append (f e) (joined f es), suc-mul (length es) m) (omega (arith, h e, joined-most f m h es))
+
+one-most : (b : Bool) (e : Entry) (id : ℕ) → length (only b (pair e id)) ≤ 2
+unfolding pair
+one-most true e id = omega arith
+one-most false e id = omega arith
+
+declared-most : (side : Side) (itype bus irq : ℕ) (es : List Entry) → length (declared side itype bus irq es) ≤ length es * (length es * 2)
+unfolding declared one
+declared-most side itype bus irq es =
+    let line : Entry → List ℕ = λ (e : Entry). joined (one side itype bus irq e) es in
+    joined-most line (length es * 2)
+    (λ e. joined-most (one side itype bus irq e) 2 (λ x. one-most (declares side itype bus irq e x) e (idOf x)) es) es
+
+-- The count of an answer fits half of eight bytes: an accepted table counts its entries in two.
+pub routes-most : (side : Side) (t : List ℕ) (itype bus irq : ℕ) (room : List ℕ) (n : ℕ) → Bytes t
+    → routed side t itype bus irq room ≡ Pairs n → n < 2 ^ 32
+unfolding routed routeRefusal routeRules tableRefusal tableRules among each
+routes-most side t itype bus irq room n b r =
+    let es = baseEntries t in
+    let k = pairs-told (routeRefusal side t itype bus irq room) (length (routesOf side t itype bus irq) / 2) n r .0 in
+    let a = first-none (refusal (tableRules t)) _ (sym (refusal-append (tableRules t) (drop 14 (routeRules side t itype bus irq room)) refl) ∙ k) .0 in
+    let c : length es ≤ 65535 = omega (arith, entries-most t b a) in
+    let d : length es * 2 ≤ 131070 = omega arith in
+    omega (arith, routes-count side t itype bus irq room r, declared-most side itype bus irq es, mul-le-mul c d)
+
+-- ---- The numbers
+
+numberOf : Routed → ℕ
+numberOf r = head 0 (routedNumbers r)
+
+number-of : (n count : ℕ) → numberOf (routedOf n count) ≡ n
+unfolding numberOf
+number-of zero count = refl
+number-of (suc n) count = refl
+
+refused-some : (m count n : ℕ) → routedOf m count ≡ Refused n → eqb m 0 ≡ false
+unfolding isPairs
+refused-some zero count n e = absurd (true≢false (ap isPairs e))
+refused-some (suc m) count n e = ne-eqb (suc m) 0 (λ q. omega arith)
+
+module _ (side : Side) (t : List ℕ) (itype bus irq : ℕ) (room : List ℕ) where
+  -- The table's own, before all else.
+  pub route-table : (n : ℕ) → 0 < n → among n (24 ∷ 19 ∷ []) ≡ false → (routeRefusal side t itype bus irq room ≡ n) ↔ (tableRefusal t ≡ n)
+  unfolding routeRefusal routeRules tableRefusal tableRules among each
+  route-table n p q = given-before (tableRules t) (drop 14 (routeRules side t itype bus irq room)) refl n p q
+
+  -- 24: "query: bus not listed .. or interrupt type over 3"
+  pub route-24 : Exactly (routeRefusal side t itype bus irq room) 24 (tableRules t) (not (isListed (baseEntries t) bus) || ltb interruptTypeMost itype)
+  unfolding routeRefusal routeRules tableRules among each
+  route-24 =
+      given-exactly (tableRules t) 24 (not (isListed (baseEntries t) bus) || ltb interruptTypeMost itype)
+      (drop 15 (routeRules side t itype bus irq room)) (omega arith) refl refl
+
+  -- 19: "answer longer than the lent room"
+  pub route-19 : Exactly (routeRefusal side t itype bus irq room) 19 (take 15 (routeRules side t itype bus irq room))
+      (ltb (length room) (length (routesOf side t itype bus irq)))
+  unfolding routeRefusal routeRules tableRules among each
+  route-19 =
+      given-exactly (take 15 (routeRules side t itype bus irq room)) 19 (ltb (length room) (length (routesOf side t itype bus irq))) []
+      (omega arith) refl refl
+
+  -- A refusal is answered with its number,
+  pub route-refused : (n : ℕ) → (routed side t itype bus irq room ≡ Refused (suc n)) ↔ (routeRefusal side t itype bus irq room ≡ suc n)
+  unfolding routed numberOf
+  route-refused n = (
+    λ e. sym (number-of (routeRefusal side t itype bus irq room) (length (routesOf side t itype bus irq) / 2)) ∙ ap numberOf e,
+    λ e. rw e,
+  )
+
+  -- and writes nothing.
+  pub route-kept : (n : ℕ) → routed side t itype bus irq room ≡ Refused n → routesLeft side t itype bus irq room ≡ room
+  unfolding routed routesLeft
+  route-kept n r = rw (refused-some (routeRefusal side t itype bus irq room) (length (routesOf side t itype bus irq) / 2) n r)

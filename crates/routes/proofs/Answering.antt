@@ -1,0 +1,162 @@
+-- The ways out of the query: what the code has found there, and the answer. Assumes nothing.
+use Prim.Native.Nat.{ℕ, _-_, _*_, _/_, _≤_, _<_}
+use mathlib.Core.Path.{_≡_, refl, sym, ap, _∙_}
+use mathlib.Core.Bool.{Bool, true, false, not, _||_, or-true}
+use mathlib.Core.List.{List}
+use native.Mathlib.Omega.{arith}
+use lib.Dec.{ltb}
+use lib.ListN.{length, take, drop}
+use lib.Seq.{sets, length-sets, take-at}
+use borrow.Author.Tests.{lt-ltb, le-ltb, not-false}
+use Rattle.mps.specs.Words.{keep, each, among, twice, part}
+use Rattle.mps.specs.Refusals.{roomNumber, queryNumber}
+use Rattle.mps.specs.Layout.{Entry, ofType, ioInterruptType, localInterruptType, headerSize, processorSize, entrySize, interruptTypeMost, idOf, enabled, baseLength, baseEntryLength, basePart, baseEntries}
+use Rattle.mps.specs.Rules.{isListed}
+use Rattle.mps.specs.Sections.{rows}
+use Rattle.mps.specs.Judge.{tableRefusal, examined}
+use Rattle.mps.specs.Routes.{pairSize, routesOf, routed, routesLeft}
+use Rattle.mps.specs.declared.Sections.{Sections}
+use Rattle.mps.specs.declared.Examined.{Examined}
+use Rattle.mps.specs.declared.Examined.the-variants.{Refused as Examined·Refused}
+use Rattle.mps.specs.declared.Routed.{Routed}
+use Rattle.mps.specs.declared.Routed.the-variants.{Pairs, Refused}
+use Rattle.laws.proofs.Small.{Bytes, small-keep, small-rows, below-each}
+use Rattle.laws.proofs.Pigeons.{bytes-most}
+use Rattle.laws.proofs.Stores.{sets-at-start}
+use Rattle.laws.proofs.Parts.{length-part}
+use Rattle.laws.proofs.Rows.{rows-count}
+use Rattle.laws.proofs.Lists.{keep-most}
+use Rattle.laws.proofs.Cut.{cut-most}
+use Rattle.sets.specs.Sets.{putAll, noNumbers}
+use Rattle.judge.specs.Placed.{Placed}
+use Rattle.judge.proofs.Laws.{refused-number, refused-some, placed-listed}
+use Rattle.accepted.proofs.Sound.{sound}
+use Rattle.routes.specs.Pairs.{sideOf, enabledIn, gathered, pairsIn, countIn, answered, answerLeft}
+use Rattle.routes.specs.declared.Enabled.{Enabled}
+use Rattle.routes.proofs.Laws.{pairs-count, io-apart, local-apart, io-routes, local-routes, routed-refused, left-refused, routed-24, left-24, routed-answered, left-answered}
+
+-- ---- One side
+
+-- 256 places hold the IDs.
+pub ids-most : (n : ℕ) (s : List ℕ) → Bytes s → twice (enabledIn n s) ≡ false → length (enabledIn n s) ≤ 256
+unfolding enabledIn
+ids-most n s b d = bytes-most _ (below-each 1 (small-keep enabled (small-rows n s b))) d
+
+-- What was gathered in places is read there: the IDs, as many as there are.
+module _ (places ids : List ℕ) (h : length ids ≤ length places) {g : Enabled} {list : List ℕ} (e : g ≡ gathered ids) (f : list ≡ sets places 0 ids) where
+  count-is : g .count ≡ length ids
+  count-is = ap (λ (x : Enabled). x .count) e
+
+  pub ids-inside : g .count ≤ length list
+  ids-inside = omega (arith, count-is, h, ap length f, length-sets places 0 ids)
+
+  pub ids-read : take (g .count - 0) list ≡ ids
+  ids-read =
+      let m : g .count - 0 ≡ length ids = omega (arith, count-is) in
+      rw (m, f, sets-at-start places ids h) (take-at ids (drop (length ids) places) (length ids) refl)
+
+  -- They come with their set.
+  pub ids-known : (g .set ≡ putAll noNumbers (take (g .count - 0) list)) × (length (take (g .count - 0) list) ≤ length places)
+  ids-known = rw ids-read (ap (λ (x : Enabled). x .set) e, h)
+
+-- What answers with pairs, or for want of room with 19, and what is left in the room.
+abbrev pub Gives : List ℕ → List ℕ → Routed → List ℕ → Type 0
+Gives pairs room r u = (r ≡ answered pairs room) × (u ≡ answerLeft pairs room)
+
+-- The IDs as they were read, and how many pairs were counted.
+module _ (ids : List ℕ) (itype bus irq : ℕ) (es : List Entry) (room : List ℕ) {read : List ℕ} (same : read ≡ ids)
+    {n : ℕ} (e : n ≡ countIn read itype bus irq es) where
+  size : length (pairsIn ids itype bus irq es) ≡ n * pairSize
+  size = pairs-count ids itype bus irq es ∙ ap (λ (k : ℕ). k * pairSize) (sym (rw same at e))
+
+  pub answer-short : length room < n * pairSize → Gives (pairsIn ids itype bus irq es) room (Refused roomNumber) room
+  unfolding answered answerLeft
+  answer-short h =
+      let l = lt-ltb (length room) (length (pairsIn ids itype bus irq es)) (rw size h) in
+      (rw l, rw l)
+
+  module _ (h : n * pairSize ≤ length room) where
+    pub answer-room : length (pairsIn read itype bus irq es) ≤ length room
+    answer-room = rw same (rw size h)
+
+    pub answer-put : {u : List ℕ} → u ≡ sets room 0 (pairsIn read itype bus irq es) → Gives (pairsIn ids itype bus irq es) room (Pairs n) u
+    unfolding answered answerLeft
+    answer-put q =
+        let l = le-ltb (length room) (length (pairsIn ids itype bus irq es)) (rw size h) in
+        let half : n * pairSize / pairSize ≡ n = omega arith in
+        (rw (l, size, half), rw l (rw same at q ∙ sets-at-start room (pairsIn ids itype bus irq es) (rw size h)))
+
+-- ---- The query
+
+-- What answers it, and what is left in the room.
+abbrev pub Answers : Bool → List ℕ → ℕ → ℕ → ℕ → List ℕ → Routed → List ℕ → Type 0
+Answers local t itype bus irq room r u =
+    (r ≡ routed (sideOf local) t itype bus irq room) × (u ≡ routesLeft (sideOf local) t itype bus irq room)
+
+-- A refused table.
+pub table-refused : (local : Bool) (t : List ℕ) (itype bus irq : ℕ) (room : List ℕ) {found : Examined} {n : ℕ}
+    → found ≡ examined t → found ≡ Examined·Refused n → Answers local t itype bus irq room (Refused n) room
+table-refused local t itype bus irq room {found} {n} e q =
+    let k = refused-number t e q in
+    let z = refused-some t e q in
+    (routed-refused (sideOf local) t itype bus irq room n k z, left-refused (sideOf local) t itype bus irq room (λ h. z (k ∙ h)))
+
+-- The interrupt entries of an accepted one are few: one entry takes a byte at least.
+entries-few : (t : List ℕ) → tableRefusal t ≡ 0 → (n : ℕ) (s : List ℕ) → keep (ofType n) (baseEntries t) ≡ rows entrySize s → length s ≤ 65535
+unfolding baseEntries
+entries-few t a n s e =
+    let f = sound t a in
+    omega (
+      arith,
+      rows-count s,
+      ap length e,
+      keep-most (ofType n) (baseEntries t),
+      cut-most baseEntryLength 0 (basePart t),
+      length-part headerSize (baseLength t) t (f .inside),
+      f .most,
+    )
+
+module _ (t : List ℕ) (p : Sections) (a : tableRefusal t ≡ 0) (placed : Placed t p) where
+  pub io-ready :
+      (4 ≤ entrySize) × (twice (enabledIn entrySize (part (p .ioapics) (p .interrupts) t)) ≡ false)
+      × (length (part (p .interrupts) (p .locals) t) ≤ 65535)
+  io-ready = (omega arith, io-apart t p placed a, entries-few t a ioInterruptType _ (placed .interrupts))
+
+  pub local-ready :
+      (4 ≤ processorSize) × (twice (enabledIn processorSize (part headerSize (p .buses) t)) ≡ false)
+      × (length (part (p .locals) (p .mappings) t) ≤ 65535)
+  local-ready = (omega arith, local-apart t p placed a, entries-few t a localInterruptType _ (placed .locals))
+
+  module _ (local : Bool) (itype bus irq : ℕ) (room : List ℕ) where
+    -- 24.
+    wrong : (not (isListed (baseEntries t) bus) || ltb interruptTypeMost itype) ≡ true → Answers local t itype bus irq room (Refused queryNumber) room
+    wrong q = (routed-24 (sideOf local) t itype bus irq room a q, left-24 (sideOf local) t itype bus irq room a q)
+
+    pub wrong-type : interruptTypeMost < itype → Answers local t itype bus irq room (Refused queryNumber) room
+    wrong-type h = wrong (rw (lt-ltb interruptTypeMost itype h) (or-true (not (isListed (baseEntries t) bus))))
+
+    module _ {found : Bool} (e : found ≡ among bus (each idOf (rows entrySize (part (p .buses) (p .ioapics) t)))) where
+      listed : isListed (baseEntries t) bus ≡ found
+      listed = placed-listed t p placed bus ∙ sym e
+
+      pub wrong-bus : not found ≡ true → Answers local t itype bus irq room (Refused queryNumber) room
+      wrong-bus h = wrong (rw (listed, h))
+
+      -- The answer of a side.
+      module _ (h : not found ≡ false) (i : itype ≤ interruptTypeMost) {r : Routed} {u : List ℕ} where
+        answers : {pairs : List ℕ} → routesOf (sideOf local) t itype bus irq ≡ pairs → Gives pairs room r u → Answers local t itype bus irq room r u
+        answers s g =
+            let l = listed ∙ not-false found h in (
+              g .0 ∙ rw (← s) (routed-answered (sideOf local) t itype bus irq room a l i),
+              g .1 ∙ rw (← s) (left-answered (sideOf local) t itype bus irq room a l i),
+            )
+
+        pub io-answers : local ≡ false
+            → Gives (pairsIn (enabledIn entrySize (part (p .ioapics) (p .interrupts) t)) itype bus irq (rows entrySize (part (p .interrupts) (p .locals) t))) room r u
+            → Answers local t itype bus irq room r u
+        io-answers l g = answers (rw l (io-routes t p placed a itype bus irq)) g
+
+        pub local-answers : local ≡ true
+            → Gives (pairsIn (enabledIn processorSize (part headerSize (p .buses) t)) itype bus irq (rows entrySize (part (p .locals) (p .mappings) t))) room r u
+            → Answers local t itype bus irq room r u
+        local-answers l g = answers (rw l (local-routes t p placed a itype bus irq)) g

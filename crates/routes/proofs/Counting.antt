@@ -1,0 +1,171 @@
+-- Laws of what the passes over a side's entries do: ask an entry, count what it names, gather the IDs. Assumes nothing.
+use Prim.Native.Nat.{ℕ, _+_, _-_, _*_, _%_, _≤_, _<_}
+use mathlib.Core.Path.{_≡_, ap, sym, _∙_}
+use mathlib.Core.Bool.{Bool, true, false, _&&_}
+use mathlib.Core.List.{List, [], _∷_}
+use native.Mathlib.Omega.{arith}
+use native.Mathlib.Numerals.{add-one}
+use lib.Dec.{eqb}
+use lib.ListN.{length, getD, set, take, drop, length-set}
+use lib.Seq.{sets}
+use borrow.Author.Tests.{eq-eqb, ne-eqb}
+use Rattle.mps.specs.Words.{among, keep, each}
+use Rattle.mps.specs.Sums.{total}
+use Rattle.mps.specs.Layout.{Entry, enabled}
+use Rattle.mps.specs.Sections.{rows}
+use Rattle.mps.specs.Routes.{asked}
+use Rattle.laws.proofs.Tests.{whether}
+use Rattle.laws.proofs.Lists.{keep-in, keep-out}
+use Rattle.laws.proofs.Rows.{rows-done, rows-next, row-byte}
+use Rattle.apics.proofs.Laws.{row-enabled}
+use Rattle.sets.specs.declared.Numbers.{Numbers}
+use Rattle.sets.specs.Sets.{putAll, noNumbers, holds, withNumber}
+use Rattle.sets.proofs.Laws.{holds-list}
+use Rattle.routes.specs.Pairs.{enabledIn, gathered, named, countIn}
+
+-- ---- asked
+
+pub asked-at :
+    (itype bus irq : ℕ) (s : List ℕ) (at : ℕ)
+    → (eqb (getD s (at + 1) 0) itype && eqb (getD s (at + 4) 0) bus && eqb (getD s (at + 5) 0) irq)
+    ≡ asked itype bus irq (take 8 (drop at s))
+unfolding asked
+asked-at itype bus irq s at =
+    let row = row-byte 8 s at in
+    rw (row 1 (omega arith), row 4 (omega arith), row 5 (omega arith))
+
+-- ---- named: all of the IDs, or, by the answer of their set, one or none
+
+module _ (ids : List ℕ) (to : ℕ) where
+  pub named-all : to ≡ 255 → named ids to ≡ ids
+  unfolding named
+  named-all e = rw (eq-eqb to 255 e)
+
+  module _ (n : to ≡ 255 → ⊥) (h : to < 256) (set : Numbers) (p : set ≡ putAll noNumbers ids) {r : Bool} (e : r ≡ holds set to) where
+    found : {b : Bool} → r ≡ b → among to ids ≡ b
+    found f = sym (holds-list ids to h) ∙ rw p at (sym e) ∙ f
+
+    pub named-one : r ≡ true → named ids to ≡ to ∷ []
+    unfolding named
+    named-one f = rw (ne-eqb to 255 n, found f)
+
+    pub named-none : r ≡ false → named ids to ≡ []
+    unfolding named
+    named-none f = rw (ne-eqb to 255 n, found f)
+
+-- An entry names no more IDs than 256, where there are no more.
+pub named-most : (ids : List ℕ) (to : ℕ) → length ids ≤ 256 → length (named ids to) ≤ 256
+unfolding named
+named-most ids to h =
+    whether (eqb to 255) (λ e. rw e h) (λ e. rw e (whether (among to ids) (λ f. rw f (omega arith)) (λ f. rw f (omega arith))))
+
+-- ---- countIn
+
+-- What the loop of the count keeps: with the rows left it comes to the count of all. A row has 256 pairs at most, 32 for
+-- each of its 8 bytes.
+abbrev pub Counts : List ℕ → ℕ → ℕ → ℕ → List ℕ → ℕ → ℕ → Type 0
+Counts ids itype bus irq s pairs at =
+    (pairs + countIn ids itype bus irq (rows 8 (drop at s)) ≡ countIn ids itype bus irq (rows 8 s)) × (at ≤ length s) × (pairs ≤ 32 * at)
+
+module _ (ids : List ℕ) (itype bus irq : ℕ) (s : List ℕ) (pairs at : ℕ) (inv : Counts ids itype bus irq s pairs at) where
+  pub counts-done : length s - at < 8 → (pairs ≡ countIn ids itype bus irq (rows 8 s)) × (pairs ≤ 32 * length s)
+  unfolding countIn keep each total
+  counts-done f =
+      let none : countIn ids itype bus irq (rows 8 (drop at s)) ≡ 0 = rw (rows-done 8 s at (inv .1) f) in
+      (omega (arith, none, inv .0), omega (arith, inv .1, inv .2))
+
+  -- The row there is asked about, or it is not. r is what the test told, n how many it names.
+  module _ (f : 8 ≤ length s - at) {r : Bool} (e : r ≡ asked itype bus irq (take 8 (drop at s))) where
+    abbrev row : Entry
+    row = take 8 (drop at s)
+
+    abbrev rest : List Entry
+    rest = rows 8 (drop (at + 8) s)
+
+    next : rows 8 (drop at s) ≡ row ∷ rest
+    next = rows-next 8 s at (omega arith) (inv .1) f
+
+    pub counts-named :
+        (n : ℕ) → r ≡ true → length ids ≤ 256 → n ≡ length (named ids (getD s (at + 6) 0)) → Counts ids itype bus irq s (pairs + n) (at + 8)
+    unfolding countIn each total
+    counts-named n t h g =
+        let more : countIn ids itype bus irq (rows 8 (drop at s)) ≡ n + countIn ids itype bus irq rest =
+        rw (next, keep-in (asked itype bus irq) row rest (sym e ∙ t), row-byte 8 s at 6 (omega arith), g) in
+        (omega (arith, more, inv .0), omega (arith, f), omega (arith, g, named-most ids (getD s (at + 6) 0) h, inv .2))
+
+    pub counts-other : r ≡ false → Counts ids itype bus irq s pairs (at + 8)
+    unfolding countIn
+    counts-other t =
+        let same : countIn ids itype bus irq (rows 8 (drop at s)) ≡ countIn ids itype bus irq rest =
+        rw (next, keep-out (asked itype bus irq) row rest (sym e ∙ t)) in
+        (omega (arith, same, inv .0), omega (arith, f), omega (arith, inv .2))
+
+-- ---- enabledIn
+
+-- From a place on: nothing whole is left, the row there is enabled, or it is not.
+module _ (n : ℕ) (s : List ℕ) (at : ℕ) (h : at ≤ length s) where
+  pub enabled-done : length s - at < n → enabledIn n (drop at s) ≡ []
+  unfolding enabledIn keep each
+  enabled-done f = rw (rows-done n s at h f)
+
+  module _ (z : 4 ≤ n) (f : n ≤ length s - at) where
+    abbrev own : Entry
+    own = take n (drop at s)
+
+    abbrev behind : List Entry
+    behind = rows n (drop (at + n) s)
+
+    first : rows n (drop at s) ≡ own ∷ behind
+    first = rows-next n s at (omega arith) h f
+
+    pub enabled-on : getD s (at + 3) 0 % 2 ≡ 1 → enabledIn n (drop at s) ≡ getD s (at + 1) 0 ∷ enabledIn n (drop (at + n) s)
+    unfolding enabledIn each
+    enabled-on p = rw (first, keep-in enabled own behind (row-enabled n s at z ∙ eq-eqb _ _ p), row-byte n s at 1 (omega arith))
+
+    pub enabled-off : (getD s (at + 3) 0 % 2 ≡ 1 → ⊥) → enabledIn n (drop at s) ≡ enabledIn n (drop (at + n) s)
+    unfolding enabledIn
+    enabled-off p = rw (first, keep-out enabled own behind (row-enabled n s at z ∙ ne-eqb _ _ p))
+
+-- What the loop that gathers keeps: with the IDs of the rows left it comes to those of all, in number, as a set and in
+-- the room, whose length stays.
+abbrev pub Gathers : List ℕ → List ℕ → ℕ → List ℕ → ℕ → Numbers → ℕ → Type 0
+Gathers room s n ids count found at =
+    (at ≤ length s)
+    × (count + length (enabledIn n (drop at s)) ≡ length (enabledIn n s))
+    × (putAll found (enabledIn n (drop at s)) ≡ putAll noNumbers (enabledIn n s))
+    × (sets ids count (enabledIn n (drop at s)) ≡ sets room 0 (enabledIn n s))
+    × (length ids ≡ length room)
+
+module _
+    (room s : List ℕ) (n : ℕ) (ids : List ℕ) (count : ℕ) (found : Numbers) (at : ℕ) (inv : Gathers room s n ids count found at) where
+  pub gathers-done :
+      length s - at < n → (record { count = count; set = found } ≡ gathered (enabledIn n s)) × (ids ≡ sets room 0 (enabledIn n s))
+  unfolding putAll
+  gathers-done f =
+      let none = enabled-done n s at (inv .0) f in
+      let many : count ≡ length (enabledIn n s) = omega (arith, inv .1, ap length none) in
+      (rw (← rw none at (inv .2), many), rw none at (inv .3))
+
+  module _ (z : 4 ≤ n) (f : n ≤ length s - at) where
+    module _ (p : getD s (at + 3) 0 % 2 ≡ 1) where
+      -- One more ID is still to come.
+      pub gathers-room : count + 1 ≤ length (enabledIn n s)
+      gathers-room = omega (arith, inv .1, ap length (enabled-on n s at (inv .0) z f p))
+
+      pub gathers-on :
+          (more : Numbers) → more ≡ withNumber found (getD s (at + 1) 0)
+          → Gathers room s n (set ids count (getD s (at + 1) 0)) (count + 1) more (at + n)
+      unfolding putAll
+      gathers-on more e =
+          let here = enabled-on n s at (inv .0) z f p in (
+            omega (arith, f, inv .0),
+            omega (arith, inv .1, ap length here),
+            rw e (rw here at (inv .2)),
+            rw (add-one count) (rw here at (inv .3)),
+            length-set ids count (getD s (at + 1) 0) ∙ inv .4,
+          )
+
+    pub gathers-off : (getD s (at + 3) 0 % 2 ≡ 1 → ⊥) → Gathers room s n ids count found (at + n)
+    gathers-off p =
+        let same = enabled-off n s at (inv .0) z f p in
+        (omega (arith, f, inv .0), rw same at (inv .1), rw same at (inv .2), rw same at (inv .3), inv .4)

@@ -1,0 +1,91 @@
+-- The IDs are gathered in 256 places; the pairs are counted, and written where they fit.
+use Prim.Native.Nat.{_-_, _≤_}
+use mathlib.Core.Path.{_≡_}
+use native.Mathlib.Omega.{arith}
+use lib.ListN.{length, take}
+use borrow.Author.Needs.{needs}
+use Rattle.routes.specs.Pairs.{enabledIn}
+use Rattle.routes.proofs.Answering.{ids-most, ids-inside, ids-read, ids-known, answer-short, answer-room, answer-put}
+use Rattle.routes.proofs.answer.Statement.{statement}
+use Rattle.routes.proofs.answer.Tie as tie
+
+most : (c : tie.After-list) → let a = c .before .before .before .before .args in length (enabledIn (a .size) (a .targets .now)) ≤ 256
+most c =
+    let s = c .before .before .before .before in
+    let bytes = c .before .before .before .shared-slice-known .given in
+    ids-most (s .args .size) (s .args .targets .now) (λ i. omega (arith, bytes i)) (s .pre .1)
+
+read :
+    (c : tie.After-gather) → let a = c .before .before .before .before .before .args in
+    take (c .gather .result .count - 0) (c .gather .last .0) ≡ enabledIn (a .size) (a .targets .now)
+read c = ids-read _ _ (most (c .before)) (c .gather .ensures .0) (c .gather .ensures .1)
+
+slice-aggregate-gather : tie.Need-slice-aggregate-gather
+slice-aggregate-gather c = search needs
+
+gather-requires : tie.Need-gather-requires
+gather-requires c κs = (c .before .before .before .before .pre .0, most c)
+
+sub-ids : tie.Need-sub-ids
+sub-ids c = search needs
+
+part-ids-start : tie.Need-part-ids-start
+part-ids-start c = search needs
+
+part-ids-end : tie.Need-part-ids-end
+part-ids-end c =
+    let g = c .before .before .before in
+    ids-inside _ _ (most (g .before)) (g .gather .ensures .0) (g .gather .ensures .1)
+
+count-requires : tie.Need-count-requires
+count-requires c κs =
+    let g = c .before .before .before .before in
+    let k = ids-known _ _ (most (g .before)) (g .gather .ensures .0) (g .gather .ensures .1) in
+    (k .0, k .1, g .before .before .before .before .before .pre .2)
+
+mul-if1 : tie.Need-mul-if1
+mul-if1 c = search needs
+
+returns : tie.Need-returns
+returns c =
+    let g = c .before .before .before .before .before .before in
+    let a = g .before .before .before .before .before .args in
+    answer-short (enabledIn (a .size) (a .targets .now)) (a .itype) (a .bus) (a .irq) _ (a .out .now) (read g)
+    (c .before .count .ensures .0) (c .if1 .taken)
+
+write-requires : tie.Need-write-requires
+write-requires c κs =
+    let g = c .before .before .before .before .before .before .before in
+    let a = g .before .before .before .before .before .args in
+    let k = ids-known _ _ (most (g .before)) (g .gather .ensures .0) (g .gather .ensures .1) in (
+      k .0,
+      answer-room (enabledIn (a .size) (a .targets .now)) (a .itype) (a .bus) (a .irq) _ (a .out .now) (read g)
+          (c .before .before .count .ensures .0) (c .before .if1 .left),
+    )
+
+same-length : tie.Need-same-length
+same-length c = search needs
+
+returns-2 : tie.Need-returns-2
+returns-2 c =
+    let n = c .before .before .before .before .before in
+    let g = n .before .before .before .before .before in
+    let a = g .before .before .before .before .before .args in
+    answer-put (enabledIn (a .size) (a .targets .now)) (a .itype) (a .bus) (a .irq) _ (a .out .now) (read g)
+    (n .count .ensures .0) (c .before .before .before .before .if1 .left) (c .before .before .write .ensures)
+
+pub answer-spec : {M : Type 1} → statement M
+answer-spec =
+    tie.close
+    (tie.spec
+    slice-aggregate-gather
+    gather-requires
+    sub-ids
+    part-ids-start
+    part-ids-end
+    count-requires
+    mul-if1
+    returns
+    write-requires
+    same-length
+    returns-2)

@@ -1,0 +1,49 @@
+-- The judge's refusal is the query's; else the table is accepted, with its places.
+use mathlib.Core.Path.{sym}
+use native.Mathlib.Omega.{arith}
+use borrow.Author.Needs.{needs}
+use Rattle.judge.proofs.Laws.{accepted-number, accepted-places}
+use Rattle.routes.proofs.Answering.{table-refused}
+use Rattle.routes.proofs.query.Statement.{statement}
+use Rattle.routes.proofs.query.Tie as tie
+
+examine-requires : tie.Need-examine-requires
+examine-requires c κs = search needs
+
+enum-known-found : tie.Need-enum-known-found
+enum-known-found c = search needs
+
+enum-known-found-2 : tie.Need-enum-known-found-2
+enum-known-found-2 c = search needs
+
+behind-table-requires : tie.Need-behind-table-requires
+behind-table-requires c κs =
+    let e = c .before .before .before .before .examine .ensures in
+    let m = c .before .before .found2 .given in
+    let bytes = c .before .before .before .before .before .before .shared-slice-known .given in
+    let t = c .before .before .before .before .before .before .before .args .t .now in
+    (sym (accepted-number t e (m .1)), accepted-places t (λ i. omega (arith, bytes i)) e (m .1))
+
+returns : tie.Need-returns
+returns c =
+    let a = c .before .before .before .before .before .before .args in
+    table-refused (a .local) (a .t .now) (a .itype) (a .bus) (a .irq) (a .out .now)
+    (c .before .before .before .examine .ensures) (c .before .found .given .1)
+
+same-length : tie.Need-same-length
+same-length c = search needs
+
+returns-2 : tie.Need-returns-2
+returns-2 c = c .before .before .behind-table .ensures
+
+pub query-spec : {M : Type 1} → statement M
+query-spec =
+    tie.close
+    (tie.spec
+    examine-requires
+    enum-known-found
+    enum-known-found-2
+    behind-table-requires
+    returns
+    same-length
+    returns-2)

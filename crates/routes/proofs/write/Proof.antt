@@ -1,0 +1,93 @@
+-- The pairs of the rows left make the whole (`Writes`).
+use Prim.Native.Nat.{_+_, _-_, _≤_}
+use mathlib.Core.Path.{_∙_}
+use mathlib.Core.Logic.{⊎-elim}
+use native.Mathlib.Omega.{arith}
+use lib.ListN.{length}
+use borrow.Author.Needs.{needs}
+use Rattle.laws.proofs.Parts.{length-part}
+use Rattle.routes.proofs.Writing.{Writes, pairsFrom, writes-first, writes-done, pairs-done, pairs-room, pairs-put, pairs-pass}
+use Rattle.routes.proofs.write.Statement.{statement}
+use Rattle.routes.proofs.write.Tie as tie
+
+abbrev Inv-loop : tie.InvT-loop
+Inv-loop out₀ s itype bus irq ids set place₀ at₀ out place at =
+    Writes out₀ 0 (pairsFrom ids itype bus irq s 0) out place (pairsFrom ids itype bus irq s at) × (at ≤ length s)
+
+abbrev μ-loop : tie.MeasureT-loop
+μ-loop out₀ s itype bus irq ids set place₀ at₀ out place at = length s - at
+
+loop-holds : tie.Need-loop-holds Inv-loop μ-loop
+loop-holds c = (writes-first _ _ _, omega arith)
+
+sub-loop : tie.Need-sub-loop Inv-loop μ-loop
+sub-loop c = search needs
+
+asked-requires : tie.Need-asked-requires Inv-loop μ-loop
+asked-requires c κs = search needs
+
+add-put-named : tie.Need-add-put-named Inv-loop μ-loop
+add-put-named c = search needs
+
+sub-put-named : tie.Need-sub-put-named Inv-loop μ-loop
+sub-put-named c = search needs
+
+part-put-named-start : tie.Need-part-put-named-start Inv-loop μ-loop
+part-put-named-start c = search needs
+
+part-put-named-end : tie.Need-part-put-named-end Inv-loop μ-loop
+part-put-named-end c = search needs
+
+put-named-requires : tie.Need-put-named-requires Inv-loop μ-loop
+put-named-requires c κs =
+    let f = c .before .before .before in
+    let at = f .before .before .loop .at in
+    let e = f .before .before .before .before .before .before in
+    let a = e .args in
+    let room = pairs-room (a .ids .now) (a .itype) (a .bus) (a .irq) (a .s .now) at (omega arith) (omega arith) (f .asked .ensures) (c .before .before .if1 .taken) in
+    ((e .pre .0, omega (arith, length-part at (at + 8) (a .s .now) (omega arith))), omega (arith, room))
+
+add-at : tie.Need-add-at Inv-loop μ-loop
+add-at c = search needs
+
+loop-less : tie.Need-loop-less Inv-loop μ-loop
+loop-less c = search needs
+
+loop-again : tie.Need-loop-again Inv-loop μ-loop
+loop-again c =
+    let l = c .before .before .before in
+    let a = l .before .before .before .before .args in
+    let told = c .before .asked .ensures in
+    ⊎-elim
+    (λ w. (pairs-put (a .ids .now) (a .itype) (a .bus) (a .irq) (a .s .now) (l .loop .at) (omega arith) (omega arith) told (l .loop .inv .0) (w .0 .taken) (w .7 ∙ w .3 .ensures .0) (w .6 ∙ w .3 .ensures .1), omega arith))
+    (λ w. (pairs-pass (a .ids .now) (a .itype) (a .bus) (a .irq) (a .s .now) (l .loop .at) (omega arith) (omega arith) told (l .loop .inv .0) (w .0 .left) (w .2) (w .1), omega arith))
+    (c .if1 .came)
+
+same-length : tie.Need-same-length Inv-loop μ-loop
+same-length c = c .before .loop .inv .0 .room
+
+returns : tie.Need-returns Inv-loop μ-loop
+returns c =
+    let l = c .before in
+    let a = l .before .before .before .before .args in
+    writes-done (l .loop .inv .0) (pairs-done (a .ids .now) (a .itype) (a .bus) (a .irq) (a .s .now) (l .loop .at) (omega arith) (omega arith)) .1
+
+pub write-spec : {M : Type 1} → statement M
+write-spec =
+    tie.close
+    (tie.spec
+    Inv-loop
+    μ-loop
+    loop-holds
+    sub-loop
+    asked-requires
+    add-put-named
+    sub-put-named
+    part-put-named-start
+    part-put-named-end
+    put-named-requires
+    add-at
+    loop-less
+    loop-again
+    same-length
+    returns)

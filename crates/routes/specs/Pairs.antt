@@ -1,0 +1,52 @@
+-- The pairs of a route query from the IDs of a side's enabled APICs alone, as the code makes them. In an accepted table no
+-- two of these are the same, so an entry names all of them, one, or none: proofs/Laws.antt.
+use Prim.Native.Nat.{ℕ, _/_}
+use mathlib.Core.Bool.{Bool, cond}
+use mathlib.Core.List.{List, [], _∷_}
+use lib.ListN.{length}
+use lib.Dec.{ltb, eqb}
+use Rattle.mps.specs.Words.{keep, each, joined, among, only, put}
+use Rattle.mps.specs.Sums.{total}
+use Rattle.mps.specs.Refusals.{roomNumber}
+use Rattle.mps.specs.Layout.{Entry, enabled, idOf, destination, everyone}
+use Rattle.mps.specs.Rules.{Side, ioSide, localSide}
+use Rattle.mps.specs.Sections.{rows}
+use Rattle.mps.specs.Routes.{asked, pair, pairSize}
+use Rattle.mps.specs.declared.Routed.{Routed}
+use Rattle.mps.specs.declared.Routed.the-variants.{Pairs, Refused}
+use Rattle.sets.specs.Sets.{putAll, noNumbers}
+use Rattle.routes.specs.declared.Enabled.{Enabled}
+
+-- The side that a query is about.
+abbrev pub sideOf : Bool → Side
+sideOf local = cond local localSide ioSide
+
+-- The IDs of the enabled entries, of entries of n bytes each, one behind the other.
+unfoldable pub enabledIn : ℕ → List ℕ → List ℕ
+enabledIn n s = each idOf (keep enabled (rows n s))
+
+-- How many they are, and as a set.
+abbrev pub gathered : List ℕ → Enabled
+gathered ids = record { count = length ids; set = putAll noNumbers ids }
+
+-- Those of them that a destination names.
+unfoldable pub named : List ℕ → ℕ → List ℕ
+named ids to = cond (eqb to everyone) ids (only (among to ids) (to ∷ []))
+
+-- The pairs of one interrupt entry.
+unfoldable pub pairsFor : List ℕ → Entry → List ℕ
+pairsFor ids e = joined (pair e) (named ids (destination e))
+
+-- The pairs of those interrupt entries that are asked about, and how many they are.
+unfoldable pub pairsIn : List ℕ → ℕ → ℕ → ℕ → List Entry → List ℕ
+pairsIn ids itype bus irq es = joined (pairsFor ids) (keep (asked itype bus irq) es)
+
+unfoldable pub countIn : List ℕ → ℕ → ℕ → ℕ → List Entry → ℕ
+countIn ids itype bus irq es = total (each (λ (e : Entry). length (named ids (destination e))) (keep (asked itype bus irq) es))
+
+-- "answer longer than the lent room", and what is left in it.
+unfoldable pub answered : List ℕ → List ℕ → Routed
+answered pairs room = cond (ltb (length room) (length pairs)) (Refused roomNumber) (Pairs (length pairs / pairSize))
+
+unfoldable pub answerLeft : List ℕ → List ℕ → List ℕ
+answerLeft pairs room = cond (ltb (length room) (length pairs)) room (put pairs room)

@@ -1,0 +1,257 @@
+// The route queries: which inputs of which APICs an interrupt line is wired to, I/O and local.
+//
+// Promised of any bytes and any room: `io` and `local` answer `routed` and leave `routesLeft` in the room, each of its side.
+// The definitions stand in mps's specs/Routes.antt; how the code comes to the pairs, in specs/Pairs.antt. A refusal leaves
+// the room as it was. What the answer means in the paper's words is proved in promises.
+//
+// Both are one query over the side. The IDs of the side's enabled APICs are gathered once, as a list for those entries that
+// name all and as a set for those that name one: so the cost is that of the table and of the answer, and not of their
+// product. One pass over the interrupt entries counts the pairs, and a second one writes them where they fit.
+use mps::Examined;
+use mps::Routed;
+use mps::Sections;
+use mps::layout;
+use sets::Numbers;
+ghost use mathlib.Core.Path.{_≡_};
+ghost use mathlib.Core.Bool.{false};
+ghost use Prim.Native.Nat.{_+_, _*_, _≤_};
+ghost use lib.ListN.{length, take, drop};
+ghost use lib.Seq.{sets};
+ghost use Rattle.mps.specs.Words.{twice, joined};
+ghost use Rattle.mps.specs.Layout.{entrySize, destination};
+ghost use Rattle.mps.specs.Rules.{ioSide, localSide};
+ghost use Rattle.mps.specs.Sections.{rows};
+ghost use Rattle.mps.specs.Judge.{tableRefusal};
+ghost use Rattle.mps.specs.Routes.{asked as isAsked, pair, pairSize, routed, routesLeft};
+ghost use Rattle.sets.specs.Sets.{putAll, noNumbers};
+ghost use Rattle.judge.specs.Placed.{Placed};
+ghost use Rattle.routes.specs.Pairs.{sideOf, enabledIn, gathered, named, pairsFor, pairsIn, countIn, answered, answerLeft};
+
+// The enabled APICs of a side: how many, and their IDs as a set.
+struct Enabled {
+    count: usize,
+    set: Numbers,
+}
+
+// Interrupt type, bus and IRQ in; the pairs stand in the room from its first byte on.
+pub fn io(t: &[u8], itype: u8, bus: u8, irq: u8, out: &mut [u8]) -> Routed
+    ensures { λ r. ⌜ r ≡ routed ioSide (now (t .entry)) itype bus irq (now (out .entry)) ⌝ }
+    ensures { λ _. ⌜ now (out .exit) ≡ routesLeft ioSide (now (t .entry)) itype bus irq (now (out .entry)) ⌝ }
+{
+    query(t, false, itype, bus, irq, out)
+}
+
+// The same over local interrupts and processors.
+pub fn local(t: &[u8], itype: u8, bus: u8, irq: u8, out: &mut [u8]) -> Routed
+    ensures { λ r. ⌜ r ≡ routed localSide (now (t .entry)) itype bus irq (now (out .entry)) ⌝ }
+    ensures { λ _. ⌜ now (out .exit) ≡ routesLeft localSide (now (t .entry)) itype bus irq (now (out .entry)) ⌝ }
+{
+    query(t, true, itype, bus, irq, out)
+}
+
+fn query(t: &[u8], local: bool, itype: u8, bus: u8, irq: u8, out: &mut [u8]) -> Routed
+    ensures { λ r. ⌜ r ≡ routed (sideOf local) (now (t .entry)) itype bus irq (now (out .entry)) ⌝ }
+    ensures { λ _. ⌜ now (out .exit) ≡ routesLeft (sideOf local) (now (t .entry)) itype bus irq (now (out .entry)) ⌝ }
+{
+    let found = judge::examine(t);
+    match found {
+        Examined::Refused(n) => Routed::Refused(n),
+        Examined::Accepted(p) => behind_table(t, p, local, itype, bus, irq, out),
+    }
+}
+
+// 24 and on, with the places of the table.
+fn behind_table(
+    t: &[u8],
+    p: Sections,
+    local: bool,
+    itype: u8,
+    bus: u8,
+    irq: u8,
+    out: &mut [u8],
+) -> Routed
+    requires { ⌜ (tableRefusal (now t) ≡ 0) × (Placed (now t) p) ⌝ }
+    ensures { λ r. ⌜ r ≡ routed (sideOf local) (now (t .entry)) itype bus irq (now (out .entry)) ⌝ }
+    ensures { λ _. ⌜ now (out .exit) ≡ routesLeft (sideOf local) (now (t .entry)) itype bus irq (now (out .entry)) ⌝ }
+{
+    let buses = p.buses;
+    let ioapics = p.ioapics;
+    let interrupts = p.interrupts;
+    let locals = p.locals;
+    let end = p.mappings;
+    if layout::INTERRUPT_TYPE_MOST < itype {
+        return Routed::Refused(24);
+    }
+    if !buses::is_listed(&t[buses..ioapics], bus) {
+        return Routed::Refused(24);
+    }
+    if local {
+        return answer(
+            &t[layout::HEADER_SIZE..buses],
+            layout::PROCESSOR_SIZE,
+            &t[locals..end],
+            itype,
+            bus,
+            irq,
+            out,
+        );
+    }
+    answer(
+        &t[ioapics..interrupts],
+        layout::ENTRY_SIZE,
+        &t[interrupts..locals],
+        itype,
+        bus,
+        irq,
+        out,
+    )
+}
+
+// The answer of one side: its APICs, entries of `size` bytes, and its interrupt entries. 256 places hold any IDs of which
+// no two are the same.
+fn answer(
+    targets: &[u8],
+    size: usize,
+    entries: &[u8],
+    itype: u8,
+    bus: u8,
+    irq: u8,
+    out: &mut [u8],
+) -> Routed
+    requires { ⌜ (4 ≤ size) × (twice (enabledIn size (now targets)) ≡ false) × (length (now entries) ≤ 65535) ⌝ }
+    ensures { λ r. ⌜ r ≡ answered (pairsIn (enabledIn size (now (targets .entry))) itype bus irq (rows entrySize (now (entries .entry)))) (now (out .entry)) ⌝ }
+    ensures { λ _. ⌜ now (out .exit) ≡ answerLeft (pairsIn (enabledIn size (now (targets .entry))) itype bus irq (rows entrySize (now (entries .entry)))) (now (out .entry)) ⌝ }
+{
+    let mut list = [0; 256];
+    let to = gather(&mut list, targets, size);
+    let n = to.count;
+    let set = to.set;
+    let ids = &list[0..n];
+    let pairs = count(entries, itype, bus, irq, ids, set);
+    if out.len() < pairs * layout::PAIR_SIZE {
+        return Routed::Refused(19);
+    }
+    write(out, entries, itype, bus, irq, ids, set);
+    Routed::Pairs(pairs)
+}
+
+// The enabled APICs, of entries of `size` bytes each: their IDs stand in `ids` from its first place on, in table order.
+fn gather(ids: &mut [u8], s: &[u8], size: usize) -> Enabled
+    requires { ⌜ (4 ≤ size) × (length (enabledIn size (now s)) ≤ length (now ids)) ⌝ }
+    ensures { λ r. ⌜ r ≡ gathered (enabledIn size (now (s .entry))) ⌝ }
+    ensures { λ _. ⌜ now (ids .exit) ≡ sets (now (ids .entry)) 0 (enabledIn size (now (s .entry))) ⌝ }
+{
+    let mut count = 0;
+    let mut set = sets::empty();
+    let mut at = 0;
+    while size <= s.len() - at {
+        if s[at + layout::APIC_FLAGS] % 2 == 1 {
+            let id = s[at + layout::ENTRY_ID];
+            ids[count] = id;
+            set = sets::put(set, id);
+            count += 1;
+        }
+        at += size;
+    }
+    Enabled { count, set }
+}
+
+// Whether the entry at a place is asked about.
+fn asked(s: &[u8], at: usize, itype: u8, bus: u8, irq: u8) -> bool
+    requires { ⌜ at + entrySize ≤ length (now s) ⌝ }
+    ensures { λ r. ⌜ r ≡ isAsked itype bus irq (take entrySize (drop at (now (s .entry)))) ⌝ }
+{
+    (s[at + layout::INTERRUPT_TYPE] == itype)
+        & (s[at + layout::SOURCE_BUS] == bus)
+        & (s[at + layout::SOURCE_IRQ] == irq)
+}
+
+// How many APICs a destination names.
+fn names(ids: &[u8], set: Numbers, to: u8) -> usize
+    requires { ⌜ set ≡ putAll noNumbers (now ids) ⌝ }
+    ensures { λ r. ⌜ r ≡ length (named (now (ids .entry)) to) ⌝ }
+{
+    if to == layout::EVERYONE {
+        return ids.len();
+    }
+    if sets::contains(set, to) {
+        return 1;
+    }
+    0
+}
+
+// How many pairs there are.
+fn count(s: &[u8], itype: u8, bus: u8, irq: u8, ids: &[u8], set: Numbers) -> usize
+    requires { ⌜ (set ≡ putAll noNumbers (now ids)) × (length (now ids) ≤ 256) × (length (now s) ≤ 65535) ⌝ }
+    ensures { λ r. ⌜ r ≡ countIn (now (ids .entry)) itype bus irq (rows entrySize (now (s .entry))) ⌝ }
+    ensures { λ r. ⌜ r ≤ 32 * length (now (s .entry)) ⌝ }
+{
+    let mut pairs = 0;
+    let mut at = 0;
+    while layout::ENTRY_SIZE <= s.len() - at {
+        if asked(s, at, itype, bus, irq) {
+            pairs += names(ids, set, s[at + layout::DESTINATION]);
+        }
+        at += layout::ENTRY_SIZE;
+    }
+    pairs
+}
+
+// One pair, of an interrupt entry and an ID.
+fn put_pair(out: &mut [u8], at: usize, entry: &[u8], id: u8)
+    requires { ⌜ (length (now entry) ≡ entrySize) × (at + pairSize ≤ length (now out)) ⌝ }
+    ensures { λ _. ⌜ now (out .exit) ≡ sets (now (out .entry)) at (pair (now (entry .entry)) id) ⌝ }
+{
+    out[at] = id;
+    out[at + 1] = entry[layout::INPUT];
+}
+
+// A pair for each ID; answers the place behind them.
+fn put_all(out: &mut [u8], at: usize, entry: &[u8], ids: &[u8]) -> usize
+    requires { ⌜ (length (now entry) ≡ entrySize) × (at + length (joined (pair (now entry)) (now ids)) ≤ length (now out)) ⌝ }
+    ensures { λ r. ⌜ r ≡ at + length (joined (pair (now (entry .entry))) (now (ids .entry))) ⌝ }
+    ensures { λ _. ⌜ now (out .exit) ≡ sets (now (out .entry)) at (joined (pair (now (entry .entry))) (now (ids .entry))) ⌝ }
+{
+    let mut place = at;
+    let mut i = 0;
+    while i < ids.len() {
+        put_pair(out, place, entry, ids[i]);
+        place += layout::PAIR_SIZE;
+        i += 1;
+    }
+    place
+}
+
+// The pairs of one entry; answers the place behind them.
+fn put_named(out: &mut [u8], at: usize, entry: &[u8], ids: &[u8], set: Numbers) -> usize
+    requires { ⌜ (set ≡ putAll noNumbers (now ids)) × (length (now entry) ≡ entrySize) ⌝ }
+    requires { ⌜ at + length (pairsFor (now ids) (now entry)) ≤ length (now out) ⌝ }
+    ensures { λ r. ⌜ r ≡ at + length (pairsFor (now (ids .entry)) (now (entry .entry))) ⌝ }
+    ensures { λ _. ⌜ now (out .exit) ≡ sets (now (out .entry)) at (pairsFor (now (ids .entry)) (now (entry .entry))) ⌝ }
+{
+    let to = entry[layout::DESTINATION];
+    if to == layout::EVERYONE {
+        return put_all(out, at, entry, ids);
+    }
+    if sets::contains(set, to) {
+        put_pair(out, at, entry, to);
+        return at + layout::PAIR_SIZE;
+    }
+    at
+}
+
+// All pairs, from the room's first byte on.
+fn write(out: &mut [u8], s: &[u8], itype: u8, bus: u8, irq: u8, ids: &[u8], set: Numbers)
+    requires { ⌜ set ≡ putAll noNumbers (now ids) ⌝ }
+    requires { ⌜ length (pairsIn (now ids) itype bus irq (rows entrySize (now s))) ≤ length (now out) ⌝ }
+    ensures { λ _. ⌜ now (out .exit) ≡ sets (now (out .entry)) 0 (pairsIn (now (ids .entry)) itype bus irq (rows entrySize (now (s .entry)))) ⌝ }
+{
+    let mut place = 0;
+    let mut at = 0;
+    while layout::ENTRY_SIZE <= s.len() - at {
+        if asked(s, at, itype, bus, irq) {
+            place = put_named(out, place, &s[at..at + layout::ENTRY_SIZE], ids, set);
+        }
+        at += layout::ENTRY_SIZE;
+    }
+}

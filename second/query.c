@@ -1,0 +1,262 @@
+/*
+ * The plain queries: where an interrupt goes, and whether an address is one of
+ * a bus.  Both judge the table first; what they ask of it then is one pass over
+ * the entries concerned, and for routes one more that writes.
+ */
+#include "query.h"
+#include "judge.h"
+#include "set.h"
+
+static bool listed(const struct table *t, uint8_t bus)
+{
+    for (size_t at = t->base[BUS]; at < t->base[BUS + 1]; at += 8)
+        if (t->bytes[at + 1] == bus)
+            return true;
+    return false;
+}
+
+/* ---- routes ---- */
+
+/* The entries that a route query is about. */
+struct side {
+    uint8_t interrupts;
+    uint8_t apics;
+    uint8_t apic_size;
+};
+
+static const struct side io_side = { IO_INT, IO_APIC, 8 };
+static const struct side local_side = { LOCAL_INT, PROCESSOR, 20 };
+
+struct source {
+    uint8_t type, bus, irq;
+};
+
+/*
+ * The enabled APICs of a side.  By rules 14 and 16 no two have the same ID and
+ * none has 255, so another destination names at most one of them: that it is in
+ * the set is all there is to find out.
+ */
+struct targets {
+    struct set set;
+    uint8_t id[ALL];   /* in table order */
+    size_t n;
+};
+
+static void gather_targets(const struct table *t, const struct side *side,
+                           struct targets *to)
+{
+    size_t end = t->base[side->apics + 1];
+
+    to->set = (struct set){ { 0 } };
+    to->n = 0;
+    for (size_t at = t->base[side->apics]; at < end; at += side->apic_size) {
+        const uint8_t *e = t->bytes + at;
+
+        if (e[3] & ENABLED) {
+            add(&to->set, e[1]);
+            to->id[to->n++] = e[1];
+        }
+    }
+}
+
+static bool comes_from(const uint8_t *e, const struct source *from)
+{
+    return e[1] == from->type && e[4] == from->bus && e[5] == from->irq;
+}
+
+static size_t count_pairs(const struct table *t, const struct side *side,
+                          const struct source *from, const struct targets *to)
+{
+    size_t end = t->base[side->interrupts + 1];
+    size_t count = 0;
+
+    for (size_t at = t->base[side->interrupts]; at < end; at += 8) {
+        const uint8_t *e = t->bytes + at;
+
+        if (comes_from(e, from))
+            count += e[6] == ALL ? to->n : in(&to->set, e[6]);
+    }
+    return count;
+}
+
+static inline uint8_t *put_pair(uint8_t *p, uint8_t id, uint8_t input)
+{
+    p[0] = id;
+    p[1] = input;
+    return p + 2;
+}
+
+static void put_pairs(const struct table *t, const struct side *side,
+                      const struct source *from, const struct targets *to,
+                      uint8_t *p)
+{
+    size_t end = t->base[side->interrupts + 1];
+
+    for (size_t at = t->base[side->interrupts]; at < end; at += 8) {
+        const uint8_t *e = t->bytes + at;
+
+        if (!comes_from(e, from))
+            continue;
+        if (e[6] == ALL)
+            for (size_t i = 0; i < to->n; i++)
+                p = put_pair(p, to->id[i], e[7]);
+        else if (in(&to->set, e[6]))
+            p = put_pair(p, e[6], e[7]);
+    }
+}
+
+static uint64_t refused(uint32_t number)
+{
+    return (uint64_t)number << 32;
+}
+
+static uint64_t routes(const uint8_t *bytes, size_t n, const struct side *side,
+                       const struct source *from, uint8_t *room, size_t size)
+{
+    struct table t;
+    struct targets to;
+    uint8_t refusal;
+
+    /* "Queries test the table, then 24, then 19" */
+    if ((refusal = plain_judge_walk(bytes, n, &t)) != 0)
+        return refused(refusal);
+
+    /* 24: "bus not listed, ... or interrupt type over 3" */
+    if (from->type > 3 || !listed(&t, from->bus))
+        return refused(24);
+
+    /* 19: "answer longer than the lent room" */
+    gather_targets(&t, side, &to);
+    size_t count = count_pairs(&t, side, from, &to);
+    if (count > size / 2)
+        return refused(19);
+
+    if (count > 0)
+        put_pairs(&t, side, from, &to, room);
+    return count;
+}
+
+uint64_t plain_io_routes(const uint8_t *t, size_t n, uint8_t type, uint8_t bus,
+                         uint8_t irq, uint8_t *room, size_t size)
+{
+    struct source from = { type, bus, irq };
+
+    return routes(t, n, &io_side, &from, room, size);
+}
+
+uint64_t plain_local_routes(const uint8_t *t, size_t n, uint8_t type, uint8_t bus,
+                            uint8_t irq, uint8_t *room, size_t size)
+{
+    struct source from = { type, bus, irq };
+
+    return routes(t, n, &local_side, &from, room, size);
+}
+
+/* ---- addresses ---- */
+
+enum { NO = 0, YES = 1, UNDECLARED = 2 };
+
+struct question {
+    uint8_t kind;
+    uint64_t address;
+};
+
+/* What the extended entries say of each bus, as far as a question goes. */
+struct claims {
+    struct set taken;         /* a modifier takes the address away */
+    struct set held;          /* a mapping covers it, or a modifier adds it */
+    struct set declared;      /* any mapping or modifier at all */
+    struct set subtractive;
+    uint8_t parent[256];      /* of the subtractive ones */
+};
+
+static void gather_mappings(const struct table *t, const struct question *q,
+                            struct claims *c)
+{
+    for (size_t at = t->ext[MAPPING]; at < t->ext[MAPPING + 1]; at += 20) {
+        const uint8_t *e = t->bytes + at;
+
+        add(&c->declared, e[2]);
+        /*
+         * No range passes 2^64 (18).  So for an address below the base the
+         * difference, modulo 2^64, is not below the length.
+         */
+        if (e[3] == q->kind && q->address - get64(e + 4) < get64(e + 12))
+            add(&c->held, e[2]);
+    }
+}
+
+static void gather_links(const struct table *t, struct claims *c)
+{
+    for (size_t at = t->ext[LINK]; at < t->ext[LINK + 1]; at += 8) {
+        const uint8_t *e = t->bytes + at;
+
+        if (e[3] & 1) {
+            add(&c->subtractive, e[2]);
+            c->parent[e[2]] = e[4];
+        }
+    }
+}
+
+static void gather_modifiers(const struct table *t, const struct question *q,
+                             struct claims *c)
+{
+    /* "Modifiers touch I/O addresses below 65,536 only" */
+    bool touched = q->kind == 0 && q->address < 65536;
+    uint32_t low = q->address & 0x3FF;
+    /* By list: "ISA when the low ten bits are ...; VGA when they are ..." */
+    bool on_list[2] = {
+        touched && low >= 0x100,
+        touched && ((low >= 0x3B0 && low <= 0x3BB)
+                    || (low >= 0x3C0 && low <= 0x3DF)),
+    };
+
+    for (size_t at = t->ext[MODIFIER]; at < t->ext[MODIFIER + 1]; at += 8) {
+        const uint8_t *e = t->bytes + at;
+
+        add(&c->declared, e[2]);
+        if (on_list[e[4]])   /* 0 or 1, by rule 18 */
+            add(e[3] & 1 ? &c->taken : &c->held, e[2]);
+    }
+}
+
+static uint32_t answer(uint32_t value, uint32_t links)
+{
+    return links << 16 | value << 8;
+}
+
+/* "First that applies"; parents are in no circle (18), so the climb ends. */
+static uint32_t climb(const struct claims *c, uint8_t bus)
+{
+    for (uint32_t links = 0; ; links++) {
+        if (in(&c->taken, bus))
+            return answer(NO, links);
+        if (in(&c->held, bus))
+            return answer(YES, links);
+        if (!in(&c->subtractive, bus))
+            return answer(in(&c->declared, bus) ? NO : UNDECLARED, links);
+        bus = c->parent[bus];
+    }
+}
+
+uint32_t plain_address(const uint8_t *bytes, size_t n, uint8_t bus, uint8_t kind,
+                       uint64_t address)
+{
+    struct question q = { kind, address };
+    struct table t;
+    struct claims c;
+    uint8_t refusal;
+
+    if ((refusal = plain_judge_walk(bytes, n, &t)) != 0)
+        return refusal;
+
+    /* 24: "bus not listed, address kind over 2" */
+    if (kind > 2 || !listed(&t, bus))
+        return 24;
+
+    c.taken = c.held = c.declared = c.subtractive = (struct set){ { 0 } };
+    gather_mappings(&t, &q, &c);
+    gather_links(&t, &c);
+    gather_modifiers(&t, &q, &c);
+    return climb(&c, bus);
+}
