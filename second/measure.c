@@ -1,6 +1,6 @@
 /*
  * measure [ROUNDS]: ns per call of the plain program (-O2 and -O3) and of the
- * library, judging, listing, editing, writing and asked, all in one process, the
+ * library, judging, listing, editing, writing and asking, all in one process, the
  * three taking turns.
  */
 #define _GNU_SOURCE

@@ -35,14 +35,14 @@ ioapics-apart es e =
     or-parts (among everyone ids) (twice ids) (shared .0) .1
 
 -- Every bus has at most one parent, which is listed, and no bus is above itself.
-pub record Parented (es xs : List Entry) : Type 0 where
+pub record OneParent (es xs : List Entry) : Type 0 where
   pub listed : any (wrongHierarchy es) (links xs) ≡ false
   pub one : twice (each extendedBus (links xs)) ≡ false
   pub rising : circle (links xs) ≡ false
 
-spaces-parented : (es xs : List Entry) → wrongSpaces es xs ≡ false → Parented es xs
+spaces-one-parent : (es xs : List Entry) → wrongSpaces es xs ≡ false → OneParent es xs
 unfolding wrongSpaces
-spaces-parented es xs e =
+spaces-one-parent es xs e =
     let mapped = any (wrongMapping es) (keep (ofType mappingType) xs) in
     let linked = any (wrongHierarchy es) (links xs) in
     let modified = any (wrongModifier es) (keep (ofType modifierType) xs) in
@@ -55,7 +55,7 @@ spaces-parented es xs e =
 pub record Obeyed (t : List ℕ) : Type 0 where
   pub processors : twice (enabledIds processorType (baseEntries t)) ≡ false
   pub ioapics : twice (enabledIds ioApicType (baseEntries t)) ≡ false
-  pub parents : Parented (baseEntries t) (extendedEntries t)
+  pub parents : OneParent (baseEntries t) (extendedEntries t)
 
 pub obeyed : (t : List ℕ) → tableRefusal t ≡ 0 → Obeyed t
 unfolding tableRules
@@ -68,5 +68,5 @@ obeyed t e =
     record {
       processors = processors-apart t (fourteen .0);
       ioapics = ioapics-apart (baseEntries t) (sixteen .0);
-      parents = spaces-parented (baseEntries t) (extendedEntries t) (eighteen .0);
+      parents = spaces-one-parent (baseEntries t) (extendedEntries t) (eighteen .0);
     }

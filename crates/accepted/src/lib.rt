@@ -2,4 +2,4 @@
 // header fields, and what an edit leaves as it was.
 //
 // Nothing here runs, and nothing here belongs to the judge's code: each law is about the definitions of mps. The judge, the
-// listing, the writer, the editor and the promises cite them.
+// listing, the queries, the writer, the editor and the promises cite them.

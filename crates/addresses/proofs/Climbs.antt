@@ -1,7 +1,7 @@
 -- The list of parents, and that the climb over marks and parents is mps's `climb`. Assumes nothing.
 use Prim.Native.Nat.{ℕ, zero, suc, _+_, _-_, _<_}
 use mathlib.Core.Path.{_≡_, refl, ap, sym, _∙_}
-use mathlib.Core.Bool.{Bool, true, false, cond, not, true≢false, false≢true}
+use mathlib.Core.Bool.{Bool, true, false, cond, true≢false, false≢true}
 use mathlib.Core.Logic.{_⊎_, inl, inr}
 use mathlib.Core.List.{List, [], _∷_}
 use native.Mathlib.Numerals.{sub-one}
@@ -9,7 +9,7 @@ use lib.ListN.{length, set, length-set}
 use lib.Seq.{getD-set-same, getD-set-other}
 use lib.Dec.{eqb}
 use borrow.Author.Tests.{eqb-true, eqb-false}
-use Rattle.mps.specs.Words.{byte, among, keep, any, each, twice, none, head, first}
+use Rattle.mps.specs.Words.{byte, among, keep, any, each, twice, none, head}
 use Rattle.mps.specs.Layout.{Entry, extendedBus, parentBus}
 use Rattle.mps.specs.Rules.{onBus, links, parentsOf}
 use Rattle.mps.specs.Addresses.{takesAway, coversOrAdds, hasEntry, subtractive, Say, says, answer, climb}
@@ -18,7 +18,7 @@ use Rattle.mps.specs.declared.Seen.the-variants.{No, Yes, Undeclared}
 use Rattle.laws.proofs.Tests.{whether, or-parts}
 use Rattle.laws.proofs.Small.{Bytes, Small, small-none, small-more, bytes-set}
 use Rattle.laws.proofs.Circle.{parentsOf-here, parentsOf-skip}
-use Rattle.addresses.specs.Marks.{meaning, parented, nothing, climbIn}
+use Rattle.addresses.specs.Marks.{meaning, parented, climbIn}
 
 -- ---- Parents
 

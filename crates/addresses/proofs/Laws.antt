@@ -1,24 +1,23 @@
 -- What the address query answers of a table, between its places. Assumes nothing.
 use Prim.Native.Nat.{ℕ, zero, suc, _-_, _/_, _≤_, _<_}
 use mathlib.Core.Path.{_≡_, refl, ap, _∙_}
-use mathlib.Core.Bool.{true, false, not, _||_, or-true}
+use mathlib.Core.Bool.{true, false, or-true}
 use mathlib.Core.List.{List, [], _∷_}
 use native.Mathlib.Omega.{arith}
 use lib.ListN.{length}
-use lib.Dec.{ltb}
 use borrow.Author.Tests.{lt-ltb, le-ltb}
-use Rattle.mps.specs.Words.{among, keep, each, part, first}
+use Rattle.mps.specs.Words.{among, each, part, first}
 use Rattle.mps.specs.Refusals.{Rule, _when_, refusal, queryNumber}
 use Rattle.mps.specs.Answers.{seenOf}
-use Rattle.mps.specs.Layout.{ofType, busType, mappingSize, linkSize, entrySize, spaceKindMost, idOf, baseEntries, extendedEntries}
+use Rattle.mps.specs.Layout.{busType, mappingSize, linkSize, entrySize, spaceKindMost, baseEntries, extendedEntries}
 use Rattle.mps.specs.Rules.{isListed, idsOf, links, parentsOf}
 use Rattle.mps.specs.Sections.{rows}
 use Rattle.mps.specs.Judge.{tableRules, tableRefusal}
-use Rattle.mps.specs.Addresses.{seenBy, addressRules, seen}
+use Rattle.mps.specs.Addresses.{seenBy, wrongSpace, addressRules, seen}
 use Rattle.mps.specs.declared.Sections.{Sections}
 use Rattle.mps.specs.declared.Seen.{Seen}
 use Rattle.mps.specs.declared.Seen.the-variants.{Refused}
-use Rattle.laws.proofs.Lists.{among-none, keep-most, length-each, zeros-at}
+use Rattle.laws.proofs.Lists.{among-none, zeros-at}
 use Rattle.laws.proofs.Small.{bytes-part, small-rows}
 use Rattle.laws.proofs.Refusals.{first-some, refusal-append, refusal-stop}
 use Rattle.accepted.proofs.Sound.{entries-most}
@@ -26,6 +25,7 @@ use Rattle.accepted.proofs.Obeyed.{obeyed}
 use Rattle.judge.specs.Placed.{Placed}
 use Rattle.judge.proofs.Laws.{placed-buses}
 use Rattle.addresses.specs.Marks.{meaning, marked, parented, nothing, climbIn}
+use Rattle.addresses.proofs.Links.{ids-fewer}
 use Rattle.addresses.proofs.Marks.{says-highest, marked-types, length-nothing}
 use Rattle.addresses.proofs.Climbs.{parented-byte, bytes-parented, parent-linked, head-some, climb-in}
 
@@ -38,12 +38,7 @@ among-some x (y ∷ ys) a = omega arith
 module _ (t : List ℕ) (p : Sections) (placed : Placed t p) (a : tableRefusal t ≡ 0) where
   -- There are no more buses than the two bytes of the header's count can say.
   pub buses-most : (p .ioapics - p .buses) / entrySize ≤ 65535
-  unfolding idsOf
-  buses-most =
-      let es = baseEntries t in
-      let kept = keep-most (ofType busType) es in
-      let ids = length-each idOf (keep (ofType busType) es) in
-      omega (arith, placed-buses t p placed, ids, kept, entries-most t (placed .bytes) a)
+  buses-most = omega (arith, placed-buses t p placed, ids-fewer busType (baseEntries t), entries-most t (placed .bytes) a)
 
   -- A listed bus is one of them.
   pub buses-some : (bus : ℕ) → isListed (baseEntries t) bus ≡ true → 1 ≤ (p .ioapics - p .buses) / entrySize
@@ -77,29 +72,30 @@ refused-of (suc n) x z = refl
 
 module _ (t : List ℕ) (bus kind address : ℕ) where
   askedRules : List Rule
-  askedRules = queryNumber when (not (isListed (baseEntries t) bus) || ltb spaceKindMost kind) ∷ []
+  askedRules = queryNumber when wrongSpace t bus kind ∷ []
 
   seen-number : refusal (addressRules t bus kind) ≡ first (tableRefusal t) (refusal askedRules)
   unfolding addressRules tableRefusal tableRules askedRules among each
   seen-number = refusal-append (tableRules t) askedRules refl
 
-  pub seen-refused : (n : ℕ) → n ≡ tableRefusal t → (n ≡ 0 → ⊥) → Refused n ≡ seen t bus kind address
+  pub refused-seen : (n : ℕ) → n ≡ tableRefusal t → (n ≡ 0 → ⊥) → Refused n ≡ seen t bus kind address
   unfolding seen
-  seen-refused n e z = rw (seen-number, ← e, first-some) (refused-of n _ z)
+  refused-seen n e z = rw (seen-number, ← e, first-some) (refused-of n _ z)
 
-  pub seen-24 : tableRefusal t ≡ 0 → (not (isListed (baseEntries t) bus) || ltb spaceKindMost kind) ≡ true
-      → Refused queryNumber ≡ seen t bus kind address
+  pub seen-24 : tableRefusal t ≡ 0 → wrongSpace t bus kind ≡ true → Refused queryNumber ≡ seen t bus kind address
   unfolding seen askedRules
   seen-24 a q = rw (seen-number, a, refusal-stop queryNumber [] q)
 
   -- The question's two faults.
   pub seen-kind : tableRefusal t ≡ 0 → spaceKindMost < kind → Refused queryNumber ≡ seen t bus kind address
-  seen-kind a k = seen-24 a (rw (lt-ltb spaceKindMost kind k) (or-true (not (isListed (baseEntries t) bus))))
+  unfolding wrongSpace
+  seen-kind a k = seen-24 a (simp (lt-ltb spaceKindMost kind k, or-true))
 
   pub seen-unlisted : tableRefusal t ≡ 0 → isListed (baseEntries t) bus ≡ false → Refused queryNumber ≡ seen t bus kind address
+  unfolding wrongSpace
   seen-unlisted a l = seen-24 a (rw l)
 
   pub seen-answered : tableRefusal t ≡ 0 → isListed (baseEntries t) bus ≡ true → kind ≤ spaceKindMost
       → seenBy t bus kind address ≡ seen t bus kind address
-  unfolding seen askedRules refusal
+  unfolding seen askedRules refusal wrongSpace
   seen-answered a l k = rw (seen-number, a, l, le-ltb spaceKindMost kind k)

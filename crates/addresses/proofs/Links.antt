@@ -7,24 +7,17 @@ use native.Mathlib.Omega.{arith}
 use lib.ListN.{length, drop}
 use Rattle.mps.specs.Words.{among, each, keep, head}
 use Rattle.mps.specs.Refusals.{refusal}
-use Rattle.mps.specs.Answers.{seenOf}
+use Rattle.mps.specs.Answers.{seenOf, linksOf}
 use Rattle.mps.specs.Layout.{Entry, ofType, busType, idOf, baseEntries, extendedEntries}
 use Rattle.mps.specs.Rules.{idsOf, links, parentsOf}
 use Rattle.mps.specs.Judge.{tableRules, tableRefusal}
 use Rattle.mps.specs.Addresses.{Say, says, answer, climb, seenBy, addressRules, seen}
 use Rattle.mps.specs.declared.Seen.{Seen}
-use Rattle.mps.specs.declared.Seen.the-variants.{No, Yes, Undeclared, Refused}
+use Rattle.mps.specs.declared.Seen.the-variants.{Undeclared}
 use Rattle.laws.proofs.Lists.{keep-most, length-each}
 use Rattle.laws.proofs.Refusals.{refusal-append, first-none}
 use Rattle.laws.proofs.Small.{Bytes}
 use Rattle.accepted.proofs.Sound.{entries-most}
-
--- The links that an answer carries.
-abbrev pub linksOf : Seen → ℕ
-linksOf (No k) = k
-linksOf (Yes k) = k
-linksOf (Undeclared k) = k
-linksOf (Refused n) = 0
 
 links-answer : (s : Say) (k n : ℕ) (above : Seen) → k ≤ n → linksOf above ≤ n → linksOf (answer s k above) ≤ n
 links-answer Say.no k n above h g = h
@@ -57,7 +50,7 @@ links-bound t bus kind address = links-of (refusal (addressRules t bus kind)) _ 
 
 -- ---- Two bytes hold them
 
-ids-fewer : (n : ℕ) (es : List Entry) → length (idsOf n es) ≤ length es
+pub ids-fewer : (n : ℕ) (es : List Entry) → length (idsOf n es) ≤ length es
 unfolding idsOf
 ids-fewer n es = rw (length-each idOf (keep (ofType n) es)) (keep-most (ofType n) es)
 

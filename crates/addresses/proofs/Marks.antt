@@ -8,7 +8,7 @@ use lib.ListN.{length, set, length-set, length-replicate}
 use lib.Seq.{getD-set-same, getD-set-other}
 use lib.Dec.{eqb}
 use borrow.Author.Tests.{eqb-true, eqb-false, eq-eqb}
-use Rattle.mps.specs.Words.{byte, keep, any, none, first}
+use Rattle.mps.specs.Words.{byte, keep, any}
 use Rattle.mps.specs.Layout.{Entry, ofType, mappingType, hierarchyType, modifierType, extendedBus}
 use Rattle.mps.specs.Rules.{onBus, links}
 use Rattle.mps.specs.Addresses.{covers, touches, takesAway, adds, coversOrAdds, hasEntry, subtractive, Say, says}

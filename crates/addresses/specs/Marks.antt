@@ -1,5 +1,5 @@
--- What a bus says of an address, as the code gathers it: one number for each bus, and its parent. The climb then goes from
--- bus to bus and not over the entries again. That it answers as mps's `climb` does is proved: proofs/Laws.antt.
+-- What a bus says of an address, as the code gathers it: one number for each bus, and its parent. The climb then goes
+-- from bus to bus and not over the entries again. That it answers as mps's `climb` does is proved: proofs/Laws.antt.
 use Prim.Native.Nat.{ℕ, zero, suc, _+_, max}
 use mathlib.Core.Bool.{cond, _&&_}
 use mathlib.Core.List.{List, [], _∷_}

@@ -1,17 +1,18 @@
 // The address query: whether a bus sees an address, and how many links to parents were climbed to know it.
 //
 // Promised of any bytes: `seen` answers `seen`, of mps's specs/Addresses.antt; how the code comes to it, in
-// specs/Marks.antt. That the links climbed are at most the listed buses less one is proved in promises.
+// specs/Marks.antt. That the links climbed are at most the listed buses less one is proved in proofs/Links.antt
+// (`links-bound`).
 //
-// One pass over the entries gathers what each bus says of the address by itself, and one over the links gathers the parents;
-// then the climb goes from bus to bus. So the cost is that of the table, however long the chain of parents is.
+// One pass over the entries gathers what each bus says of the address by itself, and one over the links gathers the
+// parents; then the climb goes from bus to bus. So the cost is that of the table, however long the chain of parents is.
 use mps::Examined;
 use mps::Sections;
 use mps::Seen;
 use mps::layout;
 ghost use mathlib.Core.Path.{_≡_};
 ghost use mathlib.Core.Bool.{_&&_};
-ghost use Prim.Native.Nat.{ℕ, _+_, _≤_, max};
+ghost use Prim.Native.Nat.{ℕ, _+_, _≤_, _<_, max};
 ghost use lib.ListN.{length};
 ghost use lib.Dec.{eqb};
 ghost use Rattle.mps.specs.Layout.{type, mappingType, hierarchyType, modifierType, mappingSize, linkSize};
@@ -86,7 +87,7 @@ fn ask(
     address: u64,
     left: usize,
 ) -> Seen
-    requires { ⌜ left ≤ 65535 ⌝ }
+    requires { ⌜ left < 65535 ⌝ }
     ensures { λ r. ⌜ r ≡ climbIn left (marked kind address (marked kind address (marked kind address nothing (rows mappingSize (now (mappings .entry)))) (rows linkSize (now (links .entry)))) (rows linkSize (now (modifiers .entry)))) (parented nothing (rows linkSize (now (links .entry)))) bus 0 ⌝ }
 {
     let lists = lists(kind, address);
@@ -237,8 +238,8 @@ fn own(mark: u8, climbed: usize) -> Seen
     ensures { λ r. ⌜ r ≡ answer (meaning mark) climbed (Undeclared climbed) ⌝ }
 {
     match mark {
-        0 | 2 => Seen::Undeclared(climbed),
-        3 => Seen::Yes(climbed),
+        UNDECLARED | PARENT => Seen::Undeclared(climbed),
+        SEES => Seen::Yes(climbed),
         _ => Seen::No(climbed),
     }
 }

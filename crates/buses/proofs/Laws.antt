@@ -1,4 +1,5 @@
--- Laws of `lists`: what it says in the words of rule 15, and what a loop meets at a place. Assumes nothing.
+-- Laws of `lists`: what it says in the words of rule 15, and what a loop meets at a place; and of the search for one bus.
+-- Assumes nothing.
 use Prim.Native.Nat.{ℕ, _+_, _-_, _≤_, _<_}
 use mathlib.Core.Path.{_≡_, refl, ap, sym, _∙_}
 use mathlib.Core.Bool.{Bool, true, false, _||_, true≢false, or-true}

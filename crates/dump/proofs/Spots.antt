@@ -13,7 +13,8 @@ use Rattle.mps.specs.Dump.{endOf, body, ofKind, regions, kindRule, soundRegion,
 use Rattle.mps.specs.Pointer.{Candidate, candidates, addressed, goodOne, searched, pointers}
 use Rattle.mps.specs.declared.Region.{Region}
 use Rattle.laws.proofs.Tests.{whether, and-parts}
-use Rattle.laws.proofs.Lists.{keep-append, joined-append}
+use Rattle.laws.proofs.Lists.{keep-append}
+use Rattle.laws.proofs.Joined.{joined-append}
 use Rattle.laws.proofs.Parts.{length-part, part-part}
 use Rattle.regions.specs.Regions.{blank, eight, firstOfKind}
 use Rattle.regions.proofs.Firsts.{first-all}

@@ -5,6 +5,7 @@ use mathlib.Core.List.{List}
 use Rattle.mps.specs.Refusals.{innerNumber}
 use Rattle.mps.specs.declared.Written.{Written}
 use Rattle.mps.specs.declared.Written.the-variants.{Bytes as Written·Bytes, Refused}
+use Rattle.mps.specs.Answers.{linksOf}
 use Rattle.mps.specs.Addresses.{seen}
 use Rattle.mps.specs.declared.Routed.{Routed}
 use Rattle.mps.specs.declared.Routed.the-variants.{Pairs, Refused as Routed·Refused}
@@ -13,7 +14,7 @@ use Rattle.mps.specs.declared.Seen.the-variants.{No, Yes, Undeclared, Refused a
 use Rattle.mps.specs.declared.Edited.{Edited}
 use Rattle.mps.specs.declared.Edited.the-variants.{Done, Refused as Edited·Refused, Inner}
 use Rattle.laws.proofs.Small.{Bytes}
-use Rattle.addresses.proofs.Links.{linksOf, links-most}
+use Rattle.addresses.proofs.Links.{links-most}
 use Rattle.exports.specs.Codes.{highHalf, writtenCode, routedCode, seenCode, editedCode}
 
 -- ---- What is written

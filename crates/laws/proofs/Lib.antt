@@ -1,6 +1,7 @@
 pub mod Tests
 pub mod Bits
 pub mod Lists
+pub mod Joined
 pub mod Pigeons
 pub mod Parts
 pub mod Stores

@@ -1,15 +1,16 @@
 -- Laws of the words about lists. Assumes nothing.
-use Prim.Native.Nat.{ℕ, zero, suc, _+_, _≤_, _<_}
-use mathlib.Core.Path.{_≡_, refl, ap, sym}
+use Prim.Native.Nat.{ℕ, zero, suc, _+_, _-_, _≤_, _<_}
+use mathlib.Core.Path.{_≡_, refl, ap, _∙_}
 use mathlib.Core.Bool.{Bool, true, false, _&&_, false≢true, or-true}
-use mathlib.Core.List.{List, [], _∷_, _++_, append-assoc}
+use mathlib.Core.List.{List, [], _∷_, _++_}
 use native.Mathlib.Omega.{arith}
+use native.Mathlib.Nat.{sub-zero}
 use native.Mathlib.Numerals.{add-one}
 use lib.ListN.{length, getD, take, drop, replicate, drop-of-length-le}
 use lib.Seq.{drop-cons}
 use lib.Dec.{eqb}
 use borrow.Author.Tests.{eqb-true, eq-eqb}
-use Rattle.mps.specs.Words.{byte, among, keep, any, each, joined, exactly}
+use Rattle.mps.specs.Words.{byte, among, keep, any, each, exactly}
 use Rattle.laws.proofs.Tests.{whether, either}
 
 -- ---- among
@@ -105,25 +106,19 @@ unfolding each
 length-each f [] = refl
 length-each f (x ∷ xs) = ap suc (length-each f xs)
 
--- ---- joined
-
-pub joined-append : {A B : Type 0} (f : A → List B) (xs ys : List A) → joined f (xs ++ ys) ≡ joined f xs ++ joined f ys
-unfolding joined
-joined-append f [] ys = refl
-joined-append f (x ∷ xs) ys = rw (joined-append f xs ys) (sym (append-assoc (f x) (joined f xs) (joined f ys)))
-
--- Two functions that agree on every element.
-pub joined-same : {A B : Type 0} (f g : A → List B) → ((x : A) → f x ≡ g x) → (xs : List A) → joined f xs ≡ joined g xs
-unfolding joined
-joined-same f g h [] = refl
-joined-same f g h (x ∷ xs) = rw (h x, joined-same f g h xs)
-
 -- ---- Zeros
 
 pub zeros-at : (n i : ℕ) → byte (replicate n 0) i ≡ 0
 zeros-at zero i = refl
 zeros-at (suc n) zero = refl
 zeros-at (suc n) (suc i) = zeros-at n i
+
+-- ---- A byte of two lists, one behind the other, in the second
+
+pub byte-right : (a b : List ℕ) (i : ℕ) → length a ≤ i → byte (a ++ b) i ≡ byte b (i - length a)
+byte-right [] b i h = rw (sub-zero i)
+byte-right (x ∷ a) b zero h = absurd (omega arith)
+byte-right (x ∷ a) b (suc i) h = byte-right a b i (omega arith) ∙ ap (byte b) (omega arith)
 
 -- ---- exactly
 

@@ -1,6 +1,6 @@
 -- Laws of `refusal`, the number of the first row that is so. Assumes nothing.
 use Prim.Native.Nat.{ℕ, zero, suc, _<_}
-use mathlib.Core.Path.{_≡_, refl, sym}
+use mathlib.Core.Path.{_≡_, refl, sym, _∙_}
 use mathlib.Core.Bool.{Bool, true, false, cond, true≢false}
 use mathlib.Core.Logic.{_↔_}
 use mathlib.Core.List.{List, [], _∷_, _++_}
@@ -103,6 +103,15 @@ given-exactly (m when true ∷ before) n b after p f g =
     (λ e. absurd (eqb-false n m (or-parts (eqb n m) (among n (each number before)) f .0) (sym e)), λ h. absurd (true≢false (h .0)))
 given-exactly (m when false ∷ before) n b after p f g =
     given-exactly before n b after p (or-parts (eqb n m) (among n (each number before)) f .1) g
+
+-- A number that the rows behind have not is given exactly when those before give it.
+pub given-before : (a b : List Rule) → among 0 (each number a) ≡ false → (n : ℕ) → 0 < n → among n (each number b) ≡ false
+    → (refusal (a ++ b) ≡ n) ↔ (refusal a ≡ n)
+given-before a b z n p f = cases (refusal a) (refusal-append a b z)
+  where
+    cases : (m : ℕ) → refusal (a ++ b) ≡ first m (refusal b) → (refusal (a ++ b) ≡ n) ↔ (m ≡ n)
+    cases zero e = (λ q. absurd (refusal-absent n b p f (sym e ∙ q)), λ q. absurd (omega (arith, p, q)))
+    cases (suc m) e = (λ q. sym e ∙ q, λ q. e ∙ q)
 
 -- Rows that are there only under a test have no number that they would not have without it.
 pub absent-only : (n : ℕ) (b : Bool) (rows : List Rule) → among n (each number rows) ≡ false → among n (each number (only b rows)) ≡ false

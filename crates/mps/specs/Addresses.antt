@@ -1,4 +1,5 @@
 -- The addresses that a bus sees. Document 01, "Routes and addresses", second paragraph; MPS 4.4.1 to 4.4.3 and Appendix E.
+-- MPS 4.4.2 gives a subtractive bus what nobody else on its parent claims; the paper gives it the parent's whole answer.
 use Prim.Native.Nat.{ℕ, zero, suc, _+_, _-_}
 use mathlib.Core.Bool.{Bool, cond, not, _||_, _&&_}
 use mathlib.Core.List.{List, [], _∷_, _++_}
@@ -88,8 +89,11 @@ seenBy t bus kind address =
 -- ---- The query: "queries test the table, then 24"
 
 -- 24: "query: bus not listed, address kind over 2"
+unfoldable pub wrongSpace : List ℕ → ℕ → ℕ → Bool
+wrongSpace t bus kind = not (isListed (baseEntries t) bus) || ltb spaceKindMost kind
+
 unfoldable pub addressRules : List ℕ → ℕ → ℕ → List Rule
-addressRules t bus kind = tableRules t ++ (queryNumber when (not (isListed (baseEntries t) bus) || ltb spaceKindMost kind) ∷ [])
+addressRules t bus kind = tableRules t ++ (queryNumber when wrongSpace t bus kind ∷ [])
 
 -- The answer of the query.
 unfoldable pub seen : List ℕ → ℕ → ℕ → ℕ → Seen

@@ -63,6 +63,13 @@ seenNumbers (Yes links) = 0 ∷ 1 ∷ links ∷ []
 seenNumbers (Undeclared links) = 0 ∷ 2 ∷ links ∷ []
 seenNumbers (Seen·Refused n) = n ∷ []
 
+-- "The answer carries how many links to parents were climbed": those that an answer carries.
+abbrev pub linksOf : Seen → ℕ
+linksOf (No k) = k
+linksOf (Yes k) = k
+linksOf (Undeclared k) = k
+linksOf (Seen·Refused n) = 0
+
 -- "23 .. the inner number is given too"
 abbrev pub editedNumbers : Edited → List ℕ
 editedNumbers Done = 0 ∷ []

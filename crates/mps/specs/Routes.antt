@@ -1,4 +1,6 @@
--- Interrupt routes. Document 01, "Routes and addresses", first paragraph; MPS 4.3.4 and 4.3.5.
+-- Interrupt routes. Document 01, "Routes and addresses", first paragraph; MPS 4.3.4 and 4.3.5. MPS connects destination 0FFh
+-- to all APICs; the paper to the enabled ones, since a processor or an I/O APIC without its EN bit is "unusable" (MPS 4.3.1
+-- and 4.3.3).
 use Prim.Native.Nat.{ℕ, _/_}
 use mathlib.Core.Bool.{Bool, cond, not, _||_, _&&_}
 use mathlib.Core.List.{List, [], _∷_, _++_}
@@ -47,12 +49,16 @@ routesOf side t itype bus irq = routes side (baseEntries t) itype bus irq
 -- ---- The query: "queries test the table, then 24, then 19"
 
 -- 24: "query: bus not listed .. or interrupt type over 3"
+unfoldable pub wrongLine : List ℕ → ℕ → ℕ → Bool
+wrongLine t itype bus = not (isListed (baseEntries t) bus) || ltb interruptTypeMost itype
+
+-- 19: "answer longer than the lent room"
+unfoldable pub roomTooSmall : Side → List ℕ → ℕ → ℕ → ℕ → List ℕ → Bool
+roomTooSmall side t itype bus irq room = ltb (length room) (length (routesOf side t itype bus irq))
+
 unfoldable pub routeRules : Side → List ℕ → ℕ → ℕ → ℕ → List ℕ → List Rule
 routeRules side t itype bus irq room =
-    tableRules t
-    ++ (queryNumber when (not (isListed (baseEntries t) bus) || ltb interruptTypeMost itype)
-    ∷ roomNumber when ltb (length room) (length (routesOf side t itype bus irq))
-    ∷ [])
+    tableRules t ++ (queryNumber when wrongLine t itype bus ∷ roomNumber when roomTooSmall side t itype bus irq room ∷ [])
 
 unfoldable pub routeRefusal : Side → List ℕ → ℕ → ℕ → ℕ → List ℕ → ℕ
 routeRefusal side t itype bus irq room = refusal (routeRules side t itype bus irq room)

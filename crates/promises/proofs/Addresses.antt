@@ -1,86 +1,81 @@
--- Demand 2, of the addresses seen by a bus: "the parent's answer" is the answer that the parent gives, with one link more;
--- the links of an answer are those climbed, at most the listed buses less one. The numbers of an address query, "given
--- exactly when". Assumes nothing.
+-- Demand 2, of the addresses seen by a bus: the links of an answer are those climbed, at most the listed buses less one; "the
+-- parent's answer" is the answer that the parent gives, with one link more. The numbers of an address query, "given exactly
+-- when". Assumes nothing.
 use Prim.Native.Nat.{ℕ, zero, suc, _+_, _-_, _<_, _≤_}
 use mathlib.Core.Path.{_≡_, refl, sym, ap, _∙_}
-use mathlib.Core.Bool.{true, false, not, _||_}
+use mathlib.Core.Bool.{true, false, not}
 use mathlib.Core.Logic.{_↔_}
 use mathlib.Core.List.{List, [], _∷_}
 use native.Mathlib.Nat.{zero-add, add-zero}
 use native.Mathlib.Numerals.{add-one}
 use native.Mathlib.Omega.{arith}
 use lib.ListN.{length}
-use lib.Dec.{ltb}
 use borrow.Author.Tests.{not-false}
 use Rattle.mps.specs.Words.{among, keep, any, each, none, head}
 use Rattle.mps.specs.Refusals.{_when_, refusal}
 use Rattle.mps.specs.Layout.{Entry, busType, spaceKindMost, extendedBus, parentBus, baseEntries, extendedEntries}
 use Rattle.mps.specs.Rules.{isListed, idsOf, links, onBus, parentsOf, wrongHierarchy}
 use Rattle.mps.specs.Judge.{tableRules, tableRefusal}
-use Rattle.mps.specs.Addresses.{Say, says, answer, climb, seenBy, addressRules, seen}
-use Rattle.mps.specs.Answers.{seenOf, seenNumbers}
+use Rattle.mps.specs.Addresses.{Say, says, answer, climb, seenBy, wrongSpace, addressRules, seen}
+use Rattle.mps.specs.Answers.{seenOf, seenNumbers, linksOf}
 use Rattle.mps.specs.declared.Seen.{Seen}
-use Rattle.mps.specs.declared.Seen.the-variants.{No, Yes, Undeclared, Refused}
+use Rattle.mps.specs.declared.Seen.the-variants.{No, Undeclared, Refused}
 use Rattle.laws.proofs.Tests.{whether, or-parts}
-use Rattle.laws.proofs.Refusals.{given-exactly}
+use Rattle.laws.proofs.Refusals.{so, refusal-none, given-before, given-exactly}
 use Rattle.laws.proofs.Circle.{parentsOf-here, parentsOf-skip}
 use Rattle.accepted.proofs.Obeyed.{obeyed}
-use Rattle.promises.proofs.Given.{Exactly, given-before}
-use Rattle.addresses.proofs.Links.{linksOf, links-bound}
+use Rattle.promises.proofs.Given.{Exactly}
+use Rattle.addresses.proofs.Links.{links-climb, links-bound}
 use Rattle.addresses.proofs.Climbs.{parent-linked, answer-above}
 use Rattle.addresses.proofs.Laws.{seen-answered}
+use Rattle.promises.specs.Climbed.{above, Climbed, onward}
 use Rattle.promises.proofs.Climb.{seen-enough}
 
 -- ---- The links climbed
 
--- The bus that so many links lead to.
-unfoldable pub above : List Entry → ℕ → ℕ → ℕ
-above ls zero bus = bus
-above ls (suc k) bus = above ls k (head bus (parentsOf ls bus))
-
--- What a bus answers by itself, after so many links.
-abbrev pub own : Say → ℕ → Seen
-own s k = answer s k (Undeclared k)
-
--- The links of an answer are those climbed: each bus on the way asked its parent, and the one they lead to answers by itself.
-pub record Climbed (t : List ℕ) (bus kind address : ℕ) (r : Seen) : Type 0 where
-  pub asks : (k : ℕ) → k < linksOf r → says (extendedEntries t) (above (links (extendedEntries t)) k bus) kind address ≡ Say.parent
-  pub answers : r ≡ own (says (extendedEntries t) (above (links (extendedEntries t)) (linksOf r) bus) kind address) (linksOf r)
-
--- The same of a climb, with the links climbed before.
-record Way (xs : List Entry) (bus kind address before : ℕ) (r : Seen) : Type 0 where
+-- Of a climb, with the links climbed before and the number that is left to fall: a bus that they lead to and that would ask
+-- its parent is come to only where nothing is left.
+record Way (xs : List Entry) (bus kind address before left : ℕ) (r : Seen) : Type 0 where
   more : ℕ
   counted : linksOf r ≡ before + more
   asks : (k : ℕ) → k < more → says xs (above (links xs) k bus) kind address ≡ Say.parent
-  answers : r ≡ own (says xs (above (links xs) more bus) kind address) (before + more)
+  ends : says xs (above (links xs) more bus) kind address ≡ Say.parent → more ≡ left
+  answers : r ≡ answer (says xs (above (links xs) more bus) kind address) (before + more) (Undeclared (before + more))
 
-links-own : (s : Say) (k : ℕ) → linksOf (own s k) ≡ k
+links-own : (s : Say) (k : ℕ) → linksOf (answer s k (Undeclared k)) ≡ k
 links-own Say.no k = refl
 links-own Say.yes k = refl
 links-own Say.parent k = refl
 links-own Say.undeclared k = refl
 
+-- What is no word to ask the parent is another one.
+no-parent : (s : Say) → linksOf (answer s 0 (No 1)) ≡ 0 → s ≡ Say.parent → ⊥
+no-parent s e q = omega (arith, rw q at e)
+
 module _ (xs : List Entry) (kind address : ℕ) where
   -- A bus that answers by itself,
-  way-own : (bus k : ℕ) (s : Say) (r : Seen) → says xs bus kind address ≡ s → r ≡ own s k → Way xs bus kind address k r
+  way-own : (left bus k : ℕ) (s : Say) (r : Seen) → says xs bus kind address ≡ s → (s ≡ Say.parent → 0 ≡ left)
+      → r ≡ answer s k (Undeclared k) → Way xs bus kind address k left r
   unfolding above
-  way-own bus k s r e q =
+  way-own left bus k s r e n q =
       record {
         more = 0;
         counted = rw q (links-own s k ∙ sym (add-zero k));
         asks = λ j h. absurd (omega arith);
+        ends = λ p. n (sym e ∙ p);
         answers = rw (e, add-zero k) q;
       }
 
   -- and one that asks its parent.
-  way-up : (bus k : ℕ) (r : Seen) → says xs bus kind address ≡ Say.parent
-      → Way xs (head bus (parentsOf (links xs) bus)) kind address (k + 1) r → Way xs bus kind address k r
+  way-up : (left bus k : ℕ) (r : Seen) → says xs bus kind address ≡ Say.parent
+      → Way xs (head bus (parentsOf (links xs) bus)) kind address (k + 1) left r → Way xs bus kind address k (suc left) r
   unfolding above
-  way-up bus k r e w =
+  way-up left bus k r e w =
       record {
         more = suc (w .more);
         counted = w .counted ∙ moved (w .more);
         asks = asks;
+        ends = λ p. ap suc (w .ends p);
         answers = rw (← moved (w .more)) (w .answers);
       }
     where
@@ -92,38 +87,49 @@ module _ (xs : List Entry) (kind address : ℕ) where
       asks (suc j) h = w .asks j (omega arith)
 
   -- The one or the other.
-  way-said : (bus k : ℕ) (s : Say) (r : Seen) → says xs bus kind address ≡ s
-      → Way xs (head bus (parentsOf (links xs) bus)) kind address (k + 1) r → Way xs bus kind address k (answer s k r)
-  way-said bus k Say.no r e w = way-own bus k Say.no _ e refl
-  way-said bus k Say.yes r e w = way-own bus k Say.yes _ e refl
-  way-said bus k Say.parent r e w = way-up bus k r e w
-  way-said bus k Say.undeclared r e w = way-own bus k Say.undeclared _ e refl
+  way-said : (left bus k : ℕ) (s : Say) (r : Seen) → says xs bus kind address ≡ s
+      → Way xs (head bus (parentsOf (links xs) bus)) kind address (k + 1) left r → Way xs bus kind address k (suc left) (answer s k r)
+  way-said left bus k Say.no r e w = way-own (suc left) bus k Say.no _ e (λ p. absurd (no-parent Say.no refl p)) refl
+  way-said left bus k Say.yes r e w = way-own (suc left) bus k Say.yes _ e (λ p. absurd (no-parent Say.yes refl p)) refl
+  way-said left bus k Say.parent r e w = way-up left bus k r e w
+  way-said left bus k Say.undeclared r e w = way-own (suc left) bus k Say.undeclared _ e (λ p. absurd (no-parent Say.undeclared refl p)) refl
 
-  way : (left bus k : ℕ) → Way xs bus kind address k (climb left xs bus kind address k)
+  way : (left bus k : ℕ) → Way xs bus kind address k left (climb left xs bus kind address k)
   unfolding climb
-  way zero bus k = way-own bus k (says xs bus kind address) _ refl refl
+  way zero bus k = way-own zero bus k (says xs bus kind address) _ refl (λ p. refl) refl
   way (suc left) bus k =
-      way-said bus k (says xs bus kind address) _ refl (way left (head bus (parentsOf (links xs) bus)) (k + 1))
+      way-said left bus k (says xs bus kind address) _ refl (way left (head bus (parentsOf (links xs) bus)) (k + 1))
 
-pub seen-climbed : (t : List ℕ) (bus kind address : ℕ) → Climbed t bus kind address (seenBy t bus kind address)
-unfolding seenBy
-seen-climbed t bus kind address =
-    let w = way (extendedEntries t) kind address (length (idsOf busType (baseEntries t)) - 1) bus 0 in
+-- A climb that has more to fall than links to climb ends at a bus that answers by itself.
+climbed : (t : List ℕ) (bus kind address left : ℕ) (r : Seen) → Way (extendedEntries t) bus kind address 0 left r → linksOf r < left
+    → Climbed t bus kind address r
+climbed t bus kind address left r w h =
     let m = w .counted ∙ zero-add (w .more) in
-    record { asks = λ k h. w .asks k (rw m at h); answers = rw m (rw (zero-add (w .more)) at (w .answers)) }
+    record {
+      asked = λ k l. w .asks k (rw m at l);
+      itself = λ p. omega (arith, h, m, w .ends (rw m at p));
+      answered = rw m (rw (zero-add (w .more)) at (w .answers));
+    }
+
+-- "The answer carries how many links to parents were climbed"
+pub seen-climbed : (t : List ℕ) (bus kind address : ℕ) → tableRefusal t ≡ 0 → isListed (baseEntries t) bus ≡ true → kind ≤ spaceKindMost
+    → Climbed t bus kind address (seen t bus kind address)
+unfolding seenBy
+seen-climbed t bus kind address a l k =
+    let es = baseEntries t in
+    let xs = extendedEntries t in
+    let left = length (idsOf busType es) - 1 in
+    let o = obeyed t a .parents in
+    let enough = seen-enough es xs (o .listed) (o .rising) bus l kind address 1 in
+    rw (← seen-answered t bus kind address a l k, ← enough)
+    (climbed t bus kind address (left + 1) _ (way xs kind address (left + 1) bus 0)
+    (rw enough (omega (arith, links-climb left xs bus kind address 0))))
 
 -- "by the definition that is at most the listed buses less one"
 pub seen-links : (t : List ℕ) (bus kind address : ℕ) → linksOf (seen t bus kind address) ≤ length (idsOf busType (baseEntries t)) - 1
 seen-links t bus kind address = links-bound t bus kind address
 
 -- ---- The parent's answer
-
--- The same answer with one link more.
-abbrev pub onward : Seen → Seen
-onward (No k) = No (k + 1)
-onward (Yes k) = Yes (k + 1)
-onward (Undeclared k) = Undeclared (k + 1)
-onward (Refused n) = Refused n
 
 -- A climb that began one link further answers the same with one link more.
 onward-answer : (s : Say) (k : ℕ) (x y : Seen) → x ≡ onward y → answer s (k + 1) x ≡ onward (answer s k y)
@@ -200,12 +206,17 @@ module _ (t : List ℕ) (bus kind address : ℕ) where
   unfolding seen seenBy numberOf
   seen-refused n = (λ e. sym (number-of (refusal (addressRules t bus kind)) (length (idsOf busType (baseEntries t)) - 1) (extendedEntries t) bus kind address 0) ∙ ap numberOf e, λ e. rw e)
 
+  -- Answered: no row is so.
+  pub address-none : (refusal (addressRules t bus kind) ≡ 0) ↔ (any so (addressRules t bus kind) ≡ false)
+  unfolding addressRules tableRules among each
+  address-none = refusal-none (addressRules t bus kind) refl
+
   -- The table's own, before all else.
   pub address-table : (n : ℕ) → 0 < n → among n (24 ∷ []) ≡ false → (refusal (addressRules t bus kind) ≡ n) ↔ (tableRefusal t ≡ n)
   unfolding addressRules tableRefusal tableRules among each
-  address-table n p q = given-before (tableRules t) (24 when (not (isListed (baseEntries t) bus) || ltb spaceKindMost kind) ∷ []) refl n p q
+  address-table n p q = given-before (tableRules t) (24 when wrongSpace t bus kind ∷ []) refl n p q
 
   -- 24: "query: bus not listed, address kind over 2"
-  pub address-24 : Exactly (refusal (addressRules t bus kind)) 24 (tableRules t) (not (isListed (baseEntries t) bus) || ltb spaceKindMost kind)
+  pub address-24 : Exactly (refusal (addressRules t bus kind)) 24 (tableRules t) (wrongSpace t bus kind)
   unfolding addressRules tableRules among each
-  address-24 = given-exactly (tableRules t) 24 (not (isListed (baseEntries t) bus) || ltb spaceKindMost kind) [] (omega arith) refl refl
+  address-24 = given-exactly (tableRules t) 24 (wrongSpace t bus kind) [] (omega arith) refl refl

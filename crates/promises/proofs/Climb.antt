@@ -1,7 +1,7 @@
 -- The climb of the address query: in an accepted table the number that falls never runs out. Assumes nothing.
 use Prim.Native.Nat.{ℕ, zero, suc, _+_, _-_}
 use mathlib.Core.Path.{_≡_, refl, sym, _∙_}
-use mathlib.Core.Bool.{Bool, true, false, cond, true≢false}
+use mathlib.Core.Bool.{true, false, true≢false}
 use mathlib.Core.List.{List, [], _∷_}
 use native.Mathlib.Nat.{suc-add}
 use native.Mathlib.Numerals.{sub-one}
@@ -9,11 +9,9 @@ use lib.ListN.{length}
 use Rattle.mps.specs.Words.{any, none, head}
 use Rattle.mps.specs.Layout.{Entry, busType}
 use Rattle.mps.specs.Rules.{links, parentsOf, isListed, idsOf, wrongHierarchy, circle}
-use Rattle.mps.specs.Addresses.{Say, takesAway, coversOrAdds, hasEntry, subtractive, says, answer, climb}
-use Rattle.mps.specs.declared.Seen.{Seen}
-use Rattle.mps.specs.declared.Seen.the-variants.{Undeclared}
+use Rattle.mps.specs.Addresses.{says, answer, climb}
 use Rattle.laws.proofs.Circle.{climbs, climbs-listed}
-use Rattle.addresses.proofs.Climbs.{subtractive-none}
+use Rattle.addresses.proofs.Climbs.{parent-linked, answer-above}
 
 -- Where not n + 1 links can be climbed from a bus, it has none, or not n can be climbed from its parent.
 climbs-cases : {C : Type 0} (n : ℕ) (ls : List Entry) (bus : ℕ) → climbs (suc n) ls bus ≡ false
@@ -26,33 +24,21 @@ climbs-cases {C} n ls bus = cases (parentsOf ls bus)
     cases [] c f g = f refl
     cases (p ∷ ps) c f g = g c
 
--- A bus without a link does not have the subtractive bit (`subtractive-none`),
--- so it answers by itself,
-answer-own : (a b d : Bool) (k : ℕ) (x y : Seen)
-    → let s = cond a Say.no (cond b Say.yes (cond d Say.no Say.undeclared)) in answer s k x ≡ answer s k y
-answer-own true b d k x y = refl
-answer-own false true d k x y = refl
-answer-own false false true k x y = refl
-answer-own false false false k x y = refl
-
 module _ (xs : List Entry) (kind address : ℕ) where
-  -- whatever number is left to fall.
-  climb-own : (left bus k : ℕ) → none (parentsOf (links xs) bus) ≡ true → climb left xs bus kind address k ≡ climb 0 xs bus kind address k
-  unfolding climb says
-  climb-own zero bus k h = refl
-  climb-own (suc left) bus k h =
-      rw (subtractive-none bus (links xs) h)
-      (answer-own (any (takesAway bus kind address) xs) (any (coversOrAdds bus kind address) xs) (any (hasEntry bus) xs) k
-      (climb left xs (head bus (parentsOf (links xs) bus)) kind address (k + 1)) (Undeclared k))
+  -- A bus without a link answers by itself, whatever number is left to fall.
+  climb-unlinked : (left bus k : ℕ) → none (parentsOf (links xs) bus) ≡ true → climb left xs bus kind address k ≡ climb 0 xs bus kind address k
+  unfolding climb
+  climb-unlinked zero bus k h = refl
+  climb-unlinked (suc left) bus k h = answer-above (says xs bus kind address) k (λ e. absurd (parent-linked xs bus kind address e h))
 
   -- Where at most `left` links can be climbed from a bus, more change nothing.
   pub climb-enough : (left m bus k : ℕ) → climbs (suc left) (links xs) bus ≡ false
       → climb (left + m) xs bus kind address k ≡ climb left xs bus kind address k
   unfolding climb climbs
-  climb-enough zero m bus k c = climbs-cases 0 (links xs) bus c (climb-own (zero + m) bus k) (λ d. absurd (true≢false d))
+  climb-enough zero m bus k c = climbs-cases 0 (links xs) bus c (climb-unlinked (zero + m) bus k) (λ d. absurd (true≢false d))
   climb-enough (suc left) m bus k c =
       climbs-cases (suc left) (links xs) bus c
-      (λ h. climb-own (suc left + m) bus k h ∙ sym (climb-own (suc left) bus k h))
+      (λ h. climb-unlinked (suc left + m) bus k h ∙ sym (climb-unlinked (suc left) bus k h))
       (λ d. rw (suc-add left m, climb-enough left m (head bus (parentsOf (links xs) bus)) (k + 1) d))
 
 -- In an accepted table the listed buses are enough: the climb that asks on would answer the same.

@@ -14,8 +14,8 @@ use Rattle.mps.specs.Table.{headerCut, wrongSignature, wrongBaseLength, wrongBa
 use Rattle.mps.specs.Rules.{enabledOf, idsOf, enabledIds, bootstraps, wrongProcessors, unknownName, wrongBuses, misplaced, wrongIoApics, isListed, wrongInterrupt, wrongInput, wrongOnSide, wrongInterrupts, wrongMapping, wrongHierarchy, wrongModifier, links, parentsOf, climbsTo, onCircle, circle, wrongSpaces}
 use Rattle.mps.specs.Sections.{rows, span, baseAfter, extendedAfter, sections}
 use Rattle.mps.specs.Judge.{tableRules, tableRefusal, pointerRules, dumpRules, dumpRefusal, judged, examined, told, pointed, held}
-use Rattle.mps.specs.Routes.{asked, matches, names, pair, pairsTo, routes, routesOf, routeRules, routeRefusal, routed, routesLeft}
-use Rattle.mps.specs.Addresses.{covers, touches, takesAway, adds, coversOrAdds, hasEntry, subtractive, says, climb, seenBy, addressRules, seen}
+use Rattle.mps.specs.Routes.{asked, matches, names, pair, pairsTo, routes, routesOf, wrongLine, roomTooSmall, routeRules, routeRefusal, routed, routesLeft}
+use Rattle.mps.specs.Addresses.{covers, touches, takesAway, adds, coversOrAdds, hasEntry, subtractive, says, climb, seenBy, wrongSpace, addressRules, seen}
 use Rattle.mps.specs.Listing.{digits, decimalDigit, hexDigit, decimalWidth, decimal, hex, line, unpadded, onOff, bootAp, interruptName, cpuLine, busLine, ioApicLine, interruptLine, baseLine, mapLine, treeLine, modLine, skipLine, extendedLine, defaultLine, pointerLine, tableLine, endLine, tableLines, listing, refusedLine, programOutput, listRefusal, listed, listLeft, printRefusal, printed, printLeft}
 use Rattle.mps.specs.Writing.{fieldsOf, partsOf, parted, header, extendedSumOf, baseSumOf, image, earlyRefusal, writeRefusal, written, writeLeft}
 use Rattle.mps.specs.Edits.{standing, before, offsetOf, sealed, editedTable, noPlace, otherShape, changed, innerRefusal, editRules, editRefusal, edited, editLeft, run, runAnswers}
@@ -74,11 +74,11 @@ unfolding tableRules tableRefusal pointerRules dumpRules dumpRefusal judged exam
 ofJudge = 0
 
 ofRoutes : ℕ
-unfolding asked matches names pair pairsTo routes routesOf routeRules routeRefusal routed routesLeft
+unfolding asked matches names pair pairsTo routes routesOf wrongLine roomTooSmall routeRules routeRefusal routed routesLeft
 ofRoutes = 0
 
 ofAddresses : ℕ
-unfolding covers touches takesAway adds coversOrAdds hasEntry subtractive says climb seenBy addressRules seen
+unfolding covers touches takesAway adds coversOrAdds hasEntry subtractive says climb seenBy wrongSpace addressRules seen
 ofAddresses = 0
 
 ofListing : ℕ

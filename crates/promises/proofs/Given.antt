@@ -1,14 +1,14 @@
 -- "Given exactly when": a dump or a bare table is refused with a number if and only if that number's row of document 01 is
 -- so and no row tested before it is, and accepted if and only if no row is so. One theorem of laws, `given-exactly`, serves
 -- every number. Assumes nothing.
-use Prim.Native.Nat.{ℕ, zero, suc, _<_}
+use Prim.Native.Nat.{ℕ, _<_}
 use mathlib.Core.Path.{_≡_, refl, sym, _∙_}
 use mathlib.Core.Bool.{Bool, true, false, not}
 use mathlib.Core.List.{List, [], _∷_, _++_}
 use mathlib.Core.Logic.{_↔_}
 use native.Mathlib.Omega.{arith}
 use lib.ListN.{take, drop}
-use Rattle.mps.specs.Words.{among, any, each, only, first}
+use Rattle.mps.specs.Words.{among, any, each, only}
 use Rattle.mps.specs.Refusals.{Rule, refusal}
 use Rattle.mps.specs.Layout.{baseEntries, extendedEntries}
 use Rattle.mps.specs.Dump.{soundDump}
@@ -16,20 +16,11 @@ use Rattle.mps.specs.Pointer.{noPointer, wrongPointerRevision, wrongFeature, is
 use Rattle.mps.specs.Table.{headerCut, wrongSignature, wrongBaseLength, wrongBaseSum, wrongRevision, wrongType, cutOrMiscounted, descendingType, wrongExtended}
 use Rattle.mps.specs.Rules.{wrongProcessors, wrongBuses, wrongIoApics, wrongInterrupts, wrongSpaces}
 use Rattle.mps.specs.Judge.{tableRules, tableRefusal, pointerRules, dumpRules, dumpRefusal}
-use Rattle.laws.proofs.Refusals.{number, so, refusal-append, refusal-absent, refusal-passed, refusal-none, refusal-behind, given-exactly, absent-only}
+use Rattle.laws.proofs.Refusals.{so, refusal-passed, refusal-none, refusal-behind, given-exactly, absent-only}
 
 -- A number is given exactly when its row is so and none of the rows before it is.
 abbrev pub Exactly : ℕ → ℕ → List Rule → Bool → Type 0
 Exactly given n before row = (given ≡ n) ↔ ((any so before ≡ false) × (row ≡ true))
-
--- A number that the rows behind have not is given exactly when those before give it.
-pub given-before : (a b : List Rule) → among 0 (each number a) ≡ false → (n : ℕ) → 0 < n → among n (each number b) ≡ false
-    → (refusal (a ++ b) ≡ n) ↔ (refusal a ≡ n)
-given-before a b z n p f = cases (refusal a) (refusal-append a b z)
-  where
-    cases : (m : ℕ) → refusal (a ++ b) ≡ first m (refusal b) → (refusal (a ++ b) ≡ n) ↔ (m ≡ n)
-    cases zero e = (λ q. absurd (refusal-absent n b p f (sym e ∙ q)), λ q. absurd (omega (arith, p, q)))
-    cases (suc m) e = (λ q. sym e ∙ q, λ q. e ∙ q)
 
 -- ---- A dump: 1 to 4
 

@@ -3,54 +3,33 @@
 -- of a route query, "given exactly when". Assumes nothing.
 use Prim.Native.Nat.{ℕ, zero, suc, _+_, _-_, _*_, _/_, _^_, _<_, _≤_}
 use mathlib.Core.Path.{_≡_, refl, sym, ap, _∙_}
-use mathlib.Core.Bool.{Bool, true, false, not, _||_, _&&_, true≢false, false≢true}
+use mathlib.Core.Bool.{Bool, true, false, not, _&&_, true≢false, false≢true}
 use mathlib.Core.Logic.{_↔_}
 use mathlib.Core.List.{List, [], _∷_, _++_}
-use native.Mathlib.Nat.{sub-zero, suc-mul, mul-le-mul}
+use native.Mathlib.Nat.{mul-le-mul}
 use native.Mathlib.Omega.{arith}
 use lib.ListN.{length, getD, take, drop, length-append, List·getD-append}
 use lib.Dec.{ltb, eqb}
 use borrow.Author.Tests.{ne-eqb, ltb-true, ltb-false}
-use Rattle.mps.specs.Words.{byte, among, keep, each, only, joined, head}
+use Rattle.mps.specs.Words.{byte, among, any, keep, each, only, joined, head}
 use Rattle.mps.specs.Refusals.{_when_, refusal}
-use Rattle.mps.specs.Layout.{Entry, ofType, interruptTypeMost, enabled, idOf, input, baseEntries}
-use Rattle.mps.specs.Rules.{Side, enabledOf, isListed}
+use Rattle.mps.specs.Layout.{Entry, ofType, enabled, idOf, input, baseEntries}
+use Rattle.mps.specs.Rules.{Side, enabledOf}
 use Rattle.mps.specs.Judge.{tableRules, tableRefusal}
-use Rattle.mps.specs.Routes.{matches, names, pairSize, pair, pairsTo, routes, routesOf, routeRules, routeRefusal, routed, routesLeft}
+use Rattle.mps.specs.Routes.{matches, names, pairSize, pair, pairsTo, routes, routesOf, wrongLine, roomTooSmall, routeRules, routeRefusal, routed, routesLeft}
 use Rattle.mps.specs.Answers.{routedOf, routedNumbers}
 use Rattle.mps.specs.declared.Routed.{Routed}
 use Rattle.mps.specs.declared.Routed.the-variants.{Pairs, Refused}
 use Rattle.laws.proofs.Tests.{whether}
-use Rattle.laws.proofs.Lists.{keep-keep, joined-same}
+use Rattle.laws.proofs.Lists.{keep-keep, byte-right}
+use Rattle.laws.proofs.Joined.{joined-same, joined-keep, joined-each, joined-only, joined-most}
 use Rattle.laws.proofs.Small.{Bytes}
-use Rattle.laws.proofs.Refusals.{first-none, refusal-append, given-exactly}
+use Rattle.laws.proofs.Refusals.{so, refusal-none, given-before, first-none, refusal-append, given-exactly}
 use Rattle.accepted.proofs.Sound.{entries-most}
 use Rattle.promises.specs.Declared.{target, declares, declared, Route, Stands}
-use Rattle.promises.proofs.Given.{Exactly, given-before}
+use Rattle.promises.proofs.Given.{Exactly}
 
 -- ---- In order
-
--- What is made of the elements that pass a test is made of all, and of the others nothing.
-joined-keep : {A B : Type 0} (f : A → List B) (p : A → Bool) (xs : List A) → joined f (keep p xs) ≡ joined (λ (x : A). only (p x) (f x)) xs
-unfolding joined keep
-joined-keep f p [] = refl
-joined-keep f p (x ∷ xs) = whether (p x) (λ e. rw (e, keep, joined, joined-keep f p xs)) (λ e. rw (e, keep, joined-keep f p xs))
-
-joined-each : {A B C : Type 0} (f : B → List C) (g : A → B) (xs : List A) → joined f (each g xs) ≡ joined (λ (x : A). f (g x)) xs
-unfolding joined each
-joined-each f g [] = refl
-joined-each f g (x ∷ xs) = rw (joined-each f g xs)
-
-joined-nothing : {A B : Type 0} (xs : List A) → joined {A = A} {B = B} (λ (x : A). []) xs ≡ []
-unfolding joined
-joined-nothing [] = refl
-joined-nothing (x ∷ xs) = joined-nothing xs
-
--- A test before them all is a test of each.
-joined-only : {A B : Type 0} (b : Bool) (p : A → Bool) (f : A → List B) (xs : List A)
-    → only b (joined (λ (x : A). only (p x) (f x)) xs) ≡ joined (λ (x : A). only (b && p x) (f x)) xs
-joined-only true p f xs = refl
-joined-only false p f xs = sym (joined-nothing xs)
 
 pub routes-declared : (side : Side) (es : List Entry) (itype bus irq : ℕ) → routes side es itype bus irq ≡ declared side itype bus irq es
 unfolding routes declared pairsTo enabledOf declares target
@@ -70,20 +49,15 @@ routes-declared side es itype bus irq =
 abbrev Even : List ℕ → Type 0
 Even s = (m : ℕ) × (length s ≡ m * 2)
 
-record Held (s : List ℕ) (id into : ℕ) : Type 0 where
+record PairIn (s : List ℕ) (id into : ℕ) : Type 0 where
   place : ℕ
   there : place * 2 + 2 ≤ length s
   first : byte s (place * 2) ≡ id
   second : byte s (place * 2 + 1) ≡ into
 
-byte-right : (a b : List ℕ) (i : ℕ) → length a ≤ i → byte (a ++ b) i ≡ byte b (i - length a)
-byte-right [] b i h = rw (sub-zero i)
-byte-right (x ∷ a) b zero h = absurd (omega arith)
-byte-right (x ∷ a) b (suc i) h = byte-right a b i (omega arith) ∙ ap (byte b) (omega arith)
-
 module _ (a b : List ℕ) (id into : ℕ) where
-  held-left : Held a id into → Held (a ++ b) id into
-  held-left h =
+  pair-in-left : PairIn a id into → PairIn (a ++ b) id into
+  pair-in-left h =
       let t = h .there in
       record {
         place = h .place;
@@ -92,8 +66,8 @@ module _ (a b : List ℕ) (id into : ℕ) where
         second = List·getD-append a b 0 (h .place * 2 + 1) (omega arith) ∙ h .second;
       }
 
-  held-right : Even a → Held b id into → Held (a ++ b) id into
-  held-right e h =
+  pair-in-right : Even a → PairIn b id into → PairIn (a ++ b) id into
+  pair-in-right e h =
       let t = h .there in
       let q = e .1 in
       record {
@@ -103,8 +77,8 @@ module _ (a b : List ℕ) (id into : ℕ) where
         second = byte-right a b ((e .0 + h .place) * 2 + 1) (omega arith) ∙ ap (byte b) (omega arith) ∙ h .second;
       }
 
-  held-cases : {C : Type 0} → Even a → Held (a ++ b) id into → (Held a id into → C) → (Held b id into → C) → C
-  held-cases e h f g =
+  pair-in-cases : {C : Type 0} → Even a → PairIn (a ++ b) id into → (PairIn a id into → C) → (PairIn b id into → C) → C
+  pair-in-cases e h f g =
       let t = rw (length-append a b) at (h .there) in
       let q = e .1 in
       whether (ltb (h .place) (e .0))
@@ -123,14 +97,14 @@ module _ (a b : List ℕ) (id into : ℕ) where
         second = sym (byte-right a b (h .place * 2 + 1) (omega arith) ∙ ap (byte b) (omega arith)) ∙ h .second;
       }))
 
-held-none : {C : Type 0} (id into : ℕ) → Held [] id into → C
-held-none id into h = let t = h .there in absurd (omega arith)
+pair-in-none : {C : Type 0} (id into : ℕ) → PairIn [] id into → C
+pair-in-none id into h = let t = h .there in absurd (omega arith)
 
 -- Among what is made of each element: at some place of the list.
 record At {A : Type 0} (f : A → List ℕ) (d : A) (xs : List A) (id into : ℕ) : Type 0 where
   place : ℕ
   there : place < length xs
-  held : Held (f (getD xs place d)) id into
+  within : PairIn (f (getD xs place d)) id into
 
 module _ {A : Type 0} (f : A → List ℕ) (even : (x : A) → Even (f x)) (d : A) (id into : ℕ) where
   even-joined : (xs : List A) → Even (joined f xs)
@@ -141,19 +115,19 @@ module _ {A : Type 0} (f : A → List ℕ) (even : (x : A) → Even (f x)) (d : 
       let q = even-joined xs in
       (p .0 + q .0, length-append (f x) (joined f xs) ∙ omega (arith, p .1, q .1))
 
-  held-at : (xs : List A) → Held (joined f xs) id into → At f d xs id into
+  pair-in-at : (xs : List A) → PairIn (joined f xs) id into → At f d xs id into
   unfolding joined
-  held-at [] h = held-none id into h
-  held-at (x ∷ xs) h =
-      held-cases (f x) (joined f xs) id into (even x) h
-      (λ l. record { place = 0; there = omega arith; held = l })
-      (λ r. let k = held-at xs r in record { place = suc (k .place); there = omega (arith, k .there); held = k .held })
+  pair-in-at [] h = pair-in-none id into h
+  pair-in-at (x ∷ xs) h =
+      pair-in-cases (f x) (joined f xs) id into (even x) h
+      (λ l. record { place = 0; there = omega arith; within = l })
+      (λ r. let k = pair-in-at xs r in record { place = suc (k .place); there = omega (arith, k .there); within = k .within })
 
-  at-held : (xs : List A) (i : ℕ) → i < length xs → Held (f (getD xs i d)) id into → Held (joined f xs) id into
+  at-pair-in : (xs : List A) (i : ℕ) → i < length xs → PairIn (f (getD xs i d)) id into → PairIn (joined f xs) id into
   unfolding joined
-  at-held [] i h k = absurd (omega arith)
-  at-held (x ∷ xs) zero h k = held-left (f x) (joined f xs) id into k
-  at-held (x ∷ xs) (suc i) h k = held-right (f x) (joined f xs) id into (even x) (at-held xs i (omega arith) k)
+  at-pair-in [] i h k = absurd (omega arith)
+  at-pair-in (x ∷ xs) zero h k = pair-in-left (f x) (joined f xs) id into k
+  at-pair-in (x ∷ xs) (suc i) h k = pair-in-right (f x) (joined f xs) id into (even x) (at-pair-in xs i (omega arith) k)
 
 -- One pair, where a test holds.
 pair-even : (b : Bool) (e : Entry) (id : ℕ) → Even (only b (pair e id))
@@ -161,16 +135,16 @@ unfolding pair
 pair-even true e id = (1, refl)
 pair-even false e id = (0, refl)
 
-pair-held : (b : Bool) (e : Entry) (own id into : ℕ) → Held (only b (pair e own)) id into → (b ≡ true) × (own ≡ id) × (input e ≡ into)
+pair-told : (b : Bool) (e : Entry) (own id into : ℕ) → PairIn (only b (pair e own)) id into → (b ≡ true) × (own ≡ id) × (input e ≡ into)
 unfolding pair
-pair-held false e own id into h = held-none id into h
-pair-held true e own id into h =
+pair-told false e own id into h = pair-in-none id into h
+pair-told true e own id into h =
     let z : h .place ≡ 0 = omega (arith, h .there) in
     (refl, rw z at (h .first), rw z at (h .second))
 
-held-pair : (b : Bool) (e : Entry) (own id into : ℕ) → b ≡ true → own ≡ id → input e ≡ into → Held (only b (pair e own)) id into
+told-pair : (b : Bool) (e : Entry) (own id into : ℕ) → b ≡ true → own ≡ id → input e ≡ into → PairIn (only b (pair e own)) id into
 unfolding pair
-held-pair b e own id into t p q = rw t (record { place = 0; there = omega arith; first = p; second = q })
+told-pair b e own id into t p q = rw t (record { place = 0; there = omega arith; first = p; second = q })
 
 module _ (side : Side) (itype bus irq : ℕ) where
   one : Entry → Entry → List ℕ
@@ -188,15 +162,15 @@ module _ (side : Side) (itype bus irq : ℕ) (es : List Entry) where
   unfolding declared one
   declared-even = even-joined (λ (e : Entry). joined (one side itype bus irq e) es) (line-even 0 0) [] 0 0 es
 
-  declared-exactly : (id into : ℕ) → Held (declared side itype bus irq es) id into ↔ Route side itype bus irq es id into
+  declared-exactly : (id into : ℕ) → PairIn (declared side itype bus irq es) id into ↔ Route side itype bus irq es id into
   unfolding declared one
   declared-exactly id into =
       let line : Entry → List ℕ = λ (e : Entry). joined (one side itype bus irq e) es in
       let even = line-even id into in (
         λ h.
-            let i = held-at line even [] id into es h in
-            let j = held-at (one side itype bus irq (getD es (i .place) [])) (one-even side itype bus irq (getD es (i .place) [])) [] id into es (i .held) in
-            let k = pair-held _ (getD es (i .place) []) (idOf (getD es (j .place) [])) id into (j .held) in
+            let i = pair-in-at line even [] id into es h in
+            let j = pair-in-at (one side itype bus irq (getD es (i .place) [])) (one-even side itype bus irq (getD es (i .place) [])) [] id into es (i .within) in
+            let k = pair-told _ (getD es (i .place) []) (idOf (getD es (j .place) [])) id into (j .within) in
             record {
               line = i .place;
               apic = j .place;
@@ -204,13 +178,13 @@ module _ (side : Side) (itype bus irq : ℕ) (es : List Entry) where
               apic-there = j .there;
               route = k .0;
               named = k .1;
-              driven = k .2;
+              entered = k .2;
             },
         λ r.
             let e = getD es (r .line) [] in
-            at-held line even [] id into es (r .line) (r .line-there)
-            (at-held (one side itype bus irq e) (one-even side itype bus irq e) [] id into es (r .apic) (r .apic-there)
-            (held-pair _ e (idOf (getD es (r .apic) [])) id into (r .route) (r .named) (r .driven))),
+            at-pair-in line even [] id into es (r .line) (r .line-there)
+            (at-pair-in (one side itype bus irq e) (one-even side itype bus irq e) [] id into es (r .apic) (r .apic-there)
+            (told-pair _ e (idOf (getD es (r .apic) [])) id into (r .route) (r .named) (r .entered))),
       )
 
 -- ---- The calls: each that a contract allows answers `routed` and leaves `routesLeft`
@@ -274,12 +248,6 @@ module _ (side : Side) (t : List ℕ) (itype bus irq : ℕ) (room : List ℕ) {n
 
 -- ---- As one number for C
 
-joined-most : (f : Entry → List ℕ) (m : ℕ) → ((e : Entry) → length (f e) ≤ m) → (es : List Entry) → length (joined f es) ≤ length es * m
-unfolding joined
-joined-most f m h [] = omega arith
-joined-most f m h (e ∷ es) =
-    rw (length-append (f e) (joined f es), suc-mul (length es) m) (omega (arith, h e, joined-most f m h es))
-
 one-most : (b : Bool) (e : Entry) (id : ℕ) → length (only b (pair e id)) ≤ 2
 unfolding pair
 one-most true e id = omega arith
@@ -320,24 +288,29 @@ refused-some zero count n e = absurd (true≢false (ap isPairs e))
 refused-some (suc m) count n e = ne-eqb (suc m) 0 (λ q. omega arith)
 
 module _ (side : Side) (t : List ℕ) (itype bus irq : ℕ) (room : List ℕ) where
+  -- Answered: no row is so.
+  pub route-none : (routeRefusal side t itype bus irq room ≡ 0) ↔ (any so (routeRules side t itype bus irq room) ≡ false)
+  unfolding routeRefusal routeRules tableRules among each
+  route-none = refusal-none (routeRules side t itype bus irq room) refl
+
   -- The table's own, before all else.
   pub route-table : (n : ℕ) → 0 < n → among n (24 ∷ 19 ∷ []) ≡ false → (routeRefusal side t itype bus irq room ≡ n) ↔ (tableRefusal t ≡ n)
   unfolding routeRefusal routeRules tableRefusal tableRules among each
   route-table n p q = given-before (tableRules t) (drop 14 (routeRules side t itype bus irq room)) refl n p q
 
   -- 24: "query: bus not listed .. or interrupt type over 3"
-  pub route-24 : Exactly (routeRefusal side t itype bus irq room) 24 (tableRules t) (not (isListed (baseEntries t) bus) || ltb interruptTypeMost itype)
+  pub route-24 : Exactly (routeRefusal side t itype bus irq room) 24 (tableRules t) (wrongLine t itype bus)
   unfolding routeRefusal routeRules tableRules among each
   route-24 =
-      given-exactly (tableRules t) 24 (not (isListed (baseEntries t) bus) || ltb interruptTypeMost itype)
+      given-exactly (tableRules t) 24 (wrongLine t itype bus)
       (drop 15 (routeRules side t itype bus irq room)) (omega arith) refl refl
 
   -- 19: "answer longer than the lent room"
   pub route-19 : Exactly (routeRefusal side t itype bus irq room) 19 (take 15 (routeRules side t itype bus irq room))
-      (ltb (length room) (length (routesOf side t itype bus irq)))
+      (roomTooSmall side t itype bus irq room)
   unfolding routeRefusal routeRules tableRules among each
   route-19 =
-      given-exactly (take 15 (routeRules side t itype bus irq room)) 19 (ltb (length room) (length (routesOf side t itype bus irq))) []
+      given-exactly (take 15 (routeRules side t itype bus irq room)) 19 (roomTooSmall side t itype bus irq room) []
       (omega arith) refl refl
 
   -- A refusal is answered with its number,

@@ -31,7 +31,7 @@ pub record Route (side : Side) (itype bus irq : ℕ) (es : List Entry) (id into 
   pub apic-there : apic < length es
   pub route : declares side itype bus irq (getD es line []) (getD es apic []) ≡ true
   pub named : idOf (getD es apic []) ≡ id
-  pub driven : input (getD es line []) ≡ into
+  pub entered : input (getD es line []) ≡ into
 
 -- A pair is one of the first n of some bytes.
 pub record Stands (n : ℕ) (s : List ℕ) (id into : ℕ) : Type 0 where

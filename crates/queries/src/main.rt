@@ -7,7 +7,7 @@
 // table stands for the last table that was given. Numbers of two and eight bytes have the low byte first. A line has the
 // record's name and the answers of its queries. vectors.py writes the records, and the lines that must come out: the
 // answers of the named cases stand by hand in named_routes.py and named_addresses.py, those of the random ones come from
-// model.py, a reader of its own. At most 65,536 bytes are read, room for all of them.
+// model.py, a second reckoning and no independent reader. At most 65,536 bytes are read, room for all of them.
 //
 // Nothing is promised here but that any input is taken safely; what the queries answer and leave is proved in
 // crates/routes and crates/addresses. That a query leaves its table as it is, its type says. A line that cannot be

@@ -1,20 +1,19 @@
 -- The ways out of the query: what the code has found there, and the answer. Assumes nothing.
 use Prim.Native.Nat.{ℕ, _-_, _*_, _/_, _≤_, _<_}
 use mathlib.Core.Path.{_≡_, refl, sym, ap, _∙_}
-use mathlib.Core.Bool.{Bool, true, false, not, _||_, or-true}
+use mathlib.Core.Bool.{Bool, true, false, not, or-true}
 use mathlib.Core.List.{List}
 use native.Mathlib.Omega.{arith}
-use lib.Dec.{ltb}
 use lib.ListN.{length, take, drop}
 use lib.Seq.{sets, length-sets, take-at}
-use borrow.Author.Tests.{lt-ltb, le-ltb, not-false}
+use borrow.Author.Tests.{lt-ltb, le-ltb}
 use Rattle.mps.specs.Words.{keep, each, among, twice, part}
 use Rattle.mps.specs.Refusals.{roomNumber, queryNumber}
 use Rattle.mps.specs.Layout.{Entry, ofType, ioInterruptType, localInterruptType, headerSize, processorSize, entrySize, interruptTypeMost, idOf, enabled, baseLength, baseEntryLength, basePart, baseEntries}
 use Rattle.mps.specs.Rules.{isListed}
 use Rattle.mps.specs.Sections.{rows}
 use Rattle.mps.specs.Judge.{tableRefusal, examined}
-use Rattle.mps.specs.Routes.{pairSize, routesOf, routed, routesLeft}
+use Rattle.mps.specs.Routes.{asked, pairSize, routesOf, wrongLine, routed, routesLeft}
 use Rattle.mps.specs.declared.Sections.{Sections}
 use Rattle.mps.specs.declared.Examined.{Examined}
 use Rattle.mps.specs.declared.Examined.the-variants.{Refused as Examined·Refused}
@@ -64,27 +63,27 @@ abbrev pub Gives : List ℕ → List ℕ → Routed → List ℕ → Type 0
 Gives pairs room r u = (r ≡ answered pairs room) × (u ≡ answerLeft pairs room)
 
 -- The IDs as they were read, and how many pairs were counted.
-module _ (ids : List ℕ) (itype bus irq : ℕ) (es : List Entry) (room : List ℕ) {read : List ℕ} (same : read ≡ ids)
-    {n : ℕ} (e : n ≡ countIn read itype bus irq es) where
-  size : length (pairsIn ids itype bus irq es) ≡ n * pairSize
-  size = pairs-count ids itype bus irq es ∙ ap (λ (k : ℕ). k * pairSize) (sym (rw same at e))
+module _ (ids : List ℕ) (p : Entry → Bool) (es : List Entry) (room : List ℕ) {read : List ℕ} (same : read ≡ ids)
+    {n : ℕ} (e : n ≡ countIn read p es) where
+  size : length (pairsIn ids p es) ≡ n * pairSize
+  size = pairs-count ids p es ∙ ap (λ (k : ℕ). k * pairSize) (sym (rw same at e))
 
-  pub answer-short : length room < n * pairSize → Gives (pairsIn ids itype bus irq es) room (Refused roomNumber) room
+  pub answer-short : length room < n * pairSize → Gives (pairsIn ids p es) room (Refused roomNumber) room
   unfolding answered answerLeft
   answer-short h =
-      let l = lt-ltb (length room) (length (pairsIn ids itype bus irq es)) (rw size h) in
+      let l = lt-ltb (length room) (length (pairsIn ids p es)) (rw size h) in
       (rw l, rw l)
 
   module _ (h : n * pairSize ≤ length room) where
-    pub answer-room : length (pairsIn read itype bus irq es) ≤ length room
+    pub answer-room : length (pairsIn read p es) ≤ length room
     answer-room = rw same (rw size h)
 
-    pub answer-put : {u : List ℕ} → u ≡ sets room 0 (pairsIn read itype bus irq es) → Gives (pairsIn ids itype bus irq es) room (Pairs n) u
+    pub answer-put : {u : List ℕ} → u ≡ sets room 0 (pairsIn read p es) → Gives (pairsIn ids p es) room (Pairs n) u
     unfolding answered answerLeft
     answer-put q =
-        let l = le-ltb (length room) (length (pairsIn ids itype bus irq es)) (rw size h) in
+        let l = le-ltb (length room) (length (pairsIn ids p es)) (rw size h) in
         let half : n * pairSize / pairSize ≡ n = omega arith in
-        (rw (l, size, half), rw l (rw same at q ∙ sets-at-start room (pairsIn ids itype bus irq es) (rw size h)))
+        (rw (l, size, half), rw l (rw same at q ∙ sets-at-start room (pairsIn ids p es) (rw size h)))
 
 -- ---- The query
 
@@ -128,11 +127,24 @@ module _ (t : List ℕ) (p : Sections) (a : tableRefusal t ≡ 0) (placed : Plac
   local-ready = (omega arith, local-apart t p placed a, entries-few t a localInterruptType _ (placed .locals))
 
   module _ (local : Bool) (itype bus irq : ℕ) (room : List ℕ) where
+    -- The answer of a side.
+    module _ {r : Routed} {u : List ℕ} where
+      pub io-gives : local ≡ false
+          → Gives (pairsIn (enabledIn entrySize (part (p .ioapics) (p .interrupts) t)) (asked itype bus irq) (rows entrySize (part (p .interrupts) (p .locals) t))) room r u
+          → Gives (routesOf (sideOf local) t itype bus irq) room r u
+      io-gives l g = rw (l, io-routes t p placed a itype bus irq) g
+
+      pub local-gives : local ≡ true
+          → Gives (pairsIn (enabledIn processorSize (part headerSize (p .buses) t)) (asked itype bus irq) (rows entrySize (part (p .locals) (p .mappings) t))) room r u
+          → Gives (routesOf (sideOf local) t itype bus irq) room r u
+      local-gives l g = rw (l, local-routes t p placed a itype bus irq) g
+
     -- 24.
-    wrong : (not (isListed (baseEntries t) bus) || ltb interruptTypeMost itype) ≡ true → Answers local t itype bus irq room (Refused queryNumber) room
+    wrong : wrongLine t itype bus ≡ true → Answers local t itype bus irq room (Refused queryNumber) room
     wrong q = (routed-24 (sideOf local) t itype bus irq room a q, left-24 (sideOf local) t itype bus irq room a q)
 
     pub wrong-type : interruptTypeMost < itype → Answers local t itype bus irq room (Refused queryNumber) room
+    unfolding wrongLine
     wrong-type h = wrong (rw (lt-ltb interruptTypeMost itype h) (or-true (not (isListed (baseEntries t) bus))))
 
     module _ {found : Bool} (e : found ≡ among bus (each idOf (rows entrySize (part (p .buses) (p .ioapics) t)))) where
@@ -140,23 +152,18 @@ module _ (t : List ℕ) (p : Sections) (a : tableRefusal t ≡ 0) (placed : Plac
       listed = placed-listed t p placed bus ∙ sym e
 
       pub wrong-bus : not found ≡ true → Answers local t itype bus irq room (Refused queryNumber) room
+      unfolding wrongLine
       wrong-bus h = wrong (rw (listed, h))
 
-      -- The answer of a side.
-      module _ (h : not found ≡ false) (i : itype ≤ interruptTypeMost) {r : Routed} {u : List ℕ} where
-        answers : {pairs : List ℕ} → routesOf (sideOf local) t itype bus irq ≡ pairs → Gives pairs room r u → Answers local t itype bus irq room r u
-        answers s g =
-            let l = listed ∙ not-false found h in (
-              g .0 ∙ rw (← s) (routed-answered (sideOf local) t itype bus irq room a l i),
-              g .1 ∙ rw (← s) (left-answered (sideOf local) t itype bus irq room a l i),
-            )
+      right : not found ≡ false → itype ≤ interruptTypeMost → wrongLine t itype bus ≡ false
+      unfolding wrongLine
+      right h i = rw (listed, h, le-ltb interruptTypeMost itype i)
 
-        pub io-answers : local ≡ false
-            → Gives (pairsIn (enabledIn entrySize (part (p .ioapics) (p .interrupts) t)) itype bus irq (rows entrySize (part (p .interrupts) (p .locals) t))) room r u
-            → Answers local t itype bus irq room r u
-        io-answers l g = answers (rw l (io-routes t p placed a itype bus irq)) g
-
-        pub local-answers : local ≡ true
-            → Gives (pairsIn (enabledIn processorSize (part headerSize (p .buses) t)) itype bus irq (rows entrySize (part (p .locals) (p .mappings) t))) room r u
-            → Answers local t itype bus irq room r u
-        local-answers l g = answers (rw l (local-routes t p placed a itype bus irq)) g
+      pub right-answers :
+          not found ≡ false → itype ≤ interruptTypeMost
+          → {r : Routed} {u : List ℕ} → Gives (routesOf (sideOf local) t itype bus irq) room r u → Answers local t itype bus irq room r u
+      right-answers h i g =
+          let q = right h i in (
+            g .0 ∙ routed-answered (sideOf local) t itype bus irq room a q,
+            g .1 ∙ left-answered (sideOf local) t itype bus irq room a q,
+          )

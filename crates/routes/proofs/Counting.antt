@@ -63,19 +63,19 @@ named-most ids to h =
 
 -- What the loop of the count keeps: with the rows left it comes to the count of all. A row has 256 pairs at most, 32 for
 -- each of its 8 bytes.
-abbrev pub Counts : List ℕ → ℕ → ℕ → ℕ → List ℕ → ℕ → ℕ → Type 0
-Counts ids itype bus irq s pairs at =
-    (pairs + countIn ids itype bus irq (rows 8 (drop at s)) ≡ countIn ids itype bus irq (rows 8 s)) × (at ≤ length s) × (pairs ≤ 32 * at)
+abbrev pub Counts : List ℕ → (Entry → Bool) → List ℕ → ℕ → ℕ → Type 0
+Counts ids p s pairs at =
+    (pairs + countIn ids p (rows 8 (drop at s)) ≡ countIn ids p (rows 8 s)) × (at ≤ length s) × (pairs ≤ 32 * at)
 
-module _ (ids : List ℕ) (itype bus irq : ℕ) (s : List ℕ) (pairs at : ℕ) (inv : Counts ids itype bus irq s pairs at) where
-  pub counts-done : length s - at < 8 → (pairs ≡ countIn ids itype bus irq (rows 8 s)) × (pairs ≤ 32 * length s)
+module _ (ids : List ℕ) (p : Entry → Bool) (s : List ℕ) (pairs at : ℕ) (inv : Counts ids p s pairs at) where
+  pub counts-done : length s - at < 8 → (pairs ≡ countIn ids p (rows 8 s)) × (pairs ≤ 32 * length s)
   unfolding countIn keep each total
   counts-done f =
-      let none : countIn ids itype bus irq (rows 8 (drop at s)) ≡ 0 = rw (rows-done 8 s at (inv .1) f) in
+      let none : countIn ids p (rows 8 (drop at s)) ≡ 0 = rw (rows-done 8 s at (inv .1) f) in
       (omega (arith, none, inv .0), omega (arith, inv .1, inv .2))
 
-  -- The row there is asked about, or it is not. r is what the test told, n how many it names.
-  module _ (f : 8 ≤ length s - at) {r : Bool} (e : r ≡ asked itype bus irq (take 8 (drop at s))) where
+  -- The row there passes, or it does not. r is what the test told, n how many it names.
+  module _ (f : 8 ≤ length s - at) {r : Bool} (e : r ≡ p (take 8 (drop at s))) where
     abbrev row : Entry
     row = take 8 (drop at s)
 
@@ -86,18 +86,18 @@ module _ (ids : List ℕ) (itype bus irq : ℕ) (s : List ℕ) (pairs at : ℕ) 
     next = rows-next 8 s at (omega arith) (inv .1) f
 
     pub counts-named :
-        (n : ℕ) → r ≡ true → length ids ≤ 256 → n ≡ length (named ids (getD s (at + 6) 0)) → Counts ids itype bus irq s (pairs + n) (at + 8)
+        (n : ℕ) → r ≡ true → length ids ≤ 256 → n ≡ length (named ids (getD s (at + 6) 0)) → Counts ids p s (pairs + n) (at + 8)
     unfolding countIn each total
     counts-named n t h g =
-        let more : countIn ids itype bus irq (rows 8 (drop at s)) ≡ n + countIn ids itype bus irq rest =
-        rw (next, keep-in (asked itype bus irq) row rest (sym e ∙ t), row-byte 8 s at 6 (omega arith), g) in
+        let more : countIn ids p (rows 8 (drop at s)) ≡ n + countIn ids p rest =
+        rw (next, keep-in p row rest (sym e ∙ t), row-byte 8 s at 6 (omega arith), g) in
         (omega (arith, more, inv .0), omega (arith, f), omega (arith, g, named-most ids (getD s (at + 6) 0) h, inv .2))
 
-    pub counts-other : r ≡ false → Counts ids itype bus irq s pairs (at + 8)
+    pub counts-other : r ≡ false → Counts ids p s pairs (at + 8)
     unfolding countIn
     counts-other t =
-        let same : countIn ids itype bus irq (rows 8 (drop at s)) ≡ countIn ids itype bus irq rest =
-        rw (next, keep-out (asked itype bus irq) row rest (sym e ∙ t)) in
+        let same : countIn ids p (rows 8 (drop at s)) ≡ countIn ids p rest =
+        rw (next, keep-out p row rest (sym e ∙ t)) in
         (omega (arith, same, inv .0), omega (arith, f), omega (arith, inv .2))
 
 -- ---- enabledIn

@@ -1,26 +1,27 @@
 -- What an accepted table's routes are, by the IDs of its enabled APICs. Assumes nothing.
-use Prim.Native.Nat.{ℕ, zero, suc, _*_, _≤_}
+use Prim.Native.Nat.{ℕ, zero, suc, _*_}
 use mathlib.Core.Path.{_≡_, refl, ap, _∙_}
-use mathlib.Core.Bool.{true, false, not, _||_}
+use mathlib.Core.Bool.{Bool, true, false}
 use mathlib.Core.List.{List, [], _∷_}
 use native.Mathlib.Omega.{arith}
 use lib.ListN.{length, length-append}
-use lib.Dec.{ltb, eqb}
-use borrow.Author.Tests.{eqb-true, ne-eqb, le-ltb}
+use lib.Dec.{eqb}
+use borrow.Author.Tests.{eqb-true, ne-eqb}
 use Rattle.mps.specs.Words.{keep, each, joined, among, only, first, twice, part}
 use Rattle.mps.specs.Sums.{total}
 use Rattle.mps.specs.Refusals.{Rule, _when_, refusal, roomNumber, queryNumber}
 use Rattle.mps.specs.Answers.{routedOf}
-use Rattle.mps.specs.Layout.{Entry, ofType, headerSize, processorSize, entrySize, interruptTypeMost, idOf, enabled, destination, everyone, baseEntries}
-use Rattle.mps.specs.Rules.{ioSide, localSide, Side, enabledOf, enabledIds, isListed}
+use Rattle.mps.specs.Layout.{Entry, ofType, headerSize, processorSize, entrySize, idOf, enabled, destination, everyone, baseEntries}
+use Rattle.mps.specs.Rules.{ioSide, localSide, Side, enabledOf, enabledIds}
 use Rattle.mps.specs.Sections.{rows}
 use Rattle.mps.specs.Judge.{tableRules, tableRefusal}
-use Rattle.mps.specs.Routes.{asked, matches, names, pair, pairSize, pairsTo, routes, routesOf, routeRules, routeRefusal, routed, routesLeft}
+use Rattle.mps.specs.Routes.{asked, matches, names, pair, pairSize, pairsTo, routes, routesOf, wrongLine, roomTooSmall, routeRules, routeRefusal, routed, routesLeft}
 use Rattle.mps.specs.declared.Sections.{Sections}
 use Rattle.mps.specs.declared.Routed.the-variants.{Refused}
 use Rattle.laws.proofs.Tests.{whether, or-parts}
 use Rattle.laws.proofs.Refusals.{first-some, refusal-append, refusal-stop, refusal-go}
-use Rattle.laws.proofs.Lists.{keep-keep, joined-same}
+use Rattle.laws.proofs.Lists.{keep-keep}
+use Rattle.laws.proofs.Joined.{joined-same}
 use Rattle.judge.specs.Placed.{Placed}
 use Rattle.accepted.proofs.Obeyed.{obeyed}
 use Rattle.routes.specs.Pairs.{enabledIn, named, pairsFor, pairsIn, countIn, answered, answerLeft}
@@ -70,10 +71,9 @@ length-joined ids (e ∷ es) =
     let l = named ids (destination e) in
     rw (length-append (joined (pair e) l) (joined (pairsFor ids) es)) (omega (arith, length-pairs e l, length-joined ids es))
 
-pub pairs-count : (ids : List ℕ) (itype bus irq : ℕ) (es : List Entry)
-    → length (pairsIn ids itype bus irq es) ≡ countIn ids itype bus irq es * pairSize
+pub pairs-count : (ids : List ℕ) (p : Entry → Bool) (es : List Entry) → length (pairsIn ids p es) ≡ countIn ids p es * pairSize
 unfolding pairsIn countIn counts
-pairs-count ids itype bus irq es = length-joined ids (keep (asked itype bus irq) es)
+pairs-count ids p es = length-joined ids (keep p es)
 
 -- ---- The routes of a table, between its places
 
@@ -91,7 +91,7 @@ module _ (t : List ℕ) (side : Side) (n : ℕ) (s : List ℕ) (targets : keep (
   side-apart = rw (← targets) apart
 
   side-routes : (u : List ℕ) → keep (ofType (side .interrupts)) (baseEntries t) ≡ rows entrySize u → (itype bus irq : ℕ)
-      → routesOf side t itype bus irq ≡ pairsIn (enabledIn n s) itype bus irq (rows entrySize u)
+      → routesOf side t itype bus irq ≡ pairsIn (enabledIn n s) (asked itype bus irq) (rows entrySize u)
   unfolding routesOf routes pairsIn enabledIn enabledIds enabledOf pairsTo pairsFor
   side-routes u interrupts itype bus irq =
       rw (← interrupts, ← targets, matched side itype bus irq (baseEntries t))
@@ -107,12 +107,12 @@ module _ (t : List ℕ) (p : Sections) (placed : Placed t p) (a : tableRefusal t
 
   pub io-routes : (itype bus irq : ℕ)
       → routesOf ioSide t itype bus irq
-      ≡ pairsIn (enabledIn entrySize (part (p .ioapics) (p .interrupts) t)) itype bus irq (rows entrySize (part (p .interrupts) (p .locals) t))
+      ≡ pairsIn (enabledIn entrySize (part (p .ioapics) (p .interrupts) t)) (asked itype bus irq) (rows entrySize (part (p .interrupts) (p .locals) t))
   io-routes = side-routes t ioSide entrySize _ (placed .ioapics) (obeyed t a .ioapics) _ (placed .interrupts)
 
   pub local-routes : (itype bus irq : ℕ)
       → routesOf localSide t itype bus irq
-      ≡ pairsIn (enabledIn processorSize (part headerSize (p .buses) t)) itype bus irq (rows entrySize (part (p .locals) (p .mappings) t))
+      ≡ pairsIn (enabledIn processorSize (part headerSize (p .buses) t)) (asked itype bus irq) (rows entrySize (part (p .locals) (p .mappings) t))
   local-routes = side-routes t localSide processorSize _ (placed .processors) (obeyed t a .processors) _ (placed .locals)
 
 -- ---- The query: the table's own number, then 24, then 19
@@ -124,10 +124,7 @@ refused-answer (suc n) count z = refl
 module _ (side : Side) (t : List ℕ) (itype bus irq : ℕ) (room : List ℕ) where
   -- What is tested behind the table: 24 and 19.
   askedRules : List Rule
-  askedRules =
-      queryNumber when (not (isListed (baseEntries t) bus) || ltb interruptTypeMost itype)
-      ∷ roomNumber when ltb (length room) (length (routesOf side t itype bus irq))
-      ∷ []
+  askedRules = queryNumber when wrongLine t itype bus ∷ roomNumber when roomTooSmall side t itype bus irq room ∷ []
 
   route-number : routeRefusal side t itype bus irq room ≡ first (tableRefusal t) (refusal askedRules)
   unfolding routeRefusal routeRules tableRefusal tableRules askedRules among each
@@ -146,39 +143,36 @@ module _ (side : Side) (t : List ℕ) (itype bus irq : ℕ) (room : List ℕ) wh
   left-refused z = rw (table-number z, ne-eqb (tableRefusal t) 0 z)
 
   -- A question that is.
-  number-24 : tableRefusal t ≡ 0 → (not (isListed (baseEntries t) bus) || ltb interruptTypeMost itype) ≡ true
-      → routeRefusal side t itype bus irq room ≡ queryNumber
+  number-24 : tableRefusal t ≡ 0 → wrongLine t itype bus ≡ true → routeRefusal side t itype bus irq room ≡ queryNumber
   unfolding askedRules
   number-24 a q = route-number ∙ rw a (refusal-stop queryNumber _ q)
 
-  pub routed-24 : tableRefusal t ≡ 0 → (not (isListed (baseEntries t) bus) || ltb interruptTypeMost itype) ≡ true
-      → Refused queryNumber ≡ routed side t itype bus irq room
+  pub routed-24 : tableRefusal t ≡ 0 → wrongLine t itype bus ≡ true → Refused queryNumber ≡ routed side t itype bus irq room
   unfolding routed
   routed-24 a q = rw (number-24 a q)
 
-  pub left-24 : tableRefusal t ≡ 0 → (not (isListed (baseEntries t) bus) || ltb interruptTypeMost itype) ≡ true
-      → room ≡ routesLeft side t itype bus irq room
+  pub left-24 : tableRefusal t ≡ 0 → wrongLine t itype bus ≡ true → room ≡ routesLeft side t itype bus irq room
   unfolding routesLeft
   left-24 a q = rw (number-24 a q)
 
   -- And one that is answered.
-  number-19 : tableRefusal t ≡ 0 → isListed (baseEntries t) bus ≡ true → itype ≤ interruptTypeMost
-      → routeRefusal side t itype bus irq room ≡ refusal (roomNumber when ltb (length room) (length (routesOf side t itype bus irq)) ∷ [])
+  number-19 : tableRefusal t ≡ 0 → wrongLine t itype bus ≡ false
+      → routeRefusal side t itype bus irq room ≡ refusal (roomNumber when roomTooSmall side t itype bus irq room ∷ [])
   unfolding askedRules
-  number-19 a l i = route-number ∙ rw a (refusal-go queryNumber _ (rw (l, le-ltb interruptTypeMost itype i)))
+  number-19 a q = route-number ∙ rw a (refusal-go queryNumber _ q)
 
-  pub routed-answered : tableRefusal t ≡ 0 → isListed (baseEntries t) bus ≡ true → itype ≤ interruptTypeMost
+  pub routed-answered : tableRefusal t ≡ 0 → wrongLine t itype bus ≡ false
       → answered (routesOf side t itype bus irq) room ≡ routed side t itype bus irq room
-  unfolding routed answered refusal
-  routed-answered a l i =
-      whether (ltb (length room) (length (routesOf side t itype bus irq)))
-      (λ q. rw (number-19 a l i, q))
-      (λ q. rw (number-19 a l i, q))
+  unfolding routed answered roomTooSmall refusal
+  routed-answered a q =
+      whether (roomTooSmall side t itype bus irq room)
+      (λ h. rw (number-19 a q, h))
+      (λ h. rw (number-19 a q, h))
 
-  pub left-answered : tableRefusal t ≡ 0 → isListed (baseEntries t) bus ≡ true → itype ≤ interruptTypeMost
+  pub left-answered : tableRefusal t ≡ 0 → wrongLine t itype bus ≡ false
       → answerLeft (routesOf side t itype bus irq) room ≡ routesLeft side t itype bus irq room
-  unfolding routesLeft answerLeft refusal
-  left-answered a l i =
-      whether (ltb (length room) (length (routesOf side t itype bus irq)))
-      (λ q. rw (number-19 a l i, q))
-      (λ q. rw (number-19 a l i, q))
+  unfolding routesLeft answerLeft roomTooSmall refusal
+  left-answered a q =
+      whether (roomTooSmall side t itype bus irq room)
+      (λ h. rw (number-19 a q, h))
+      (λ h. rw (number-19 a q, h))

@@ -10,7 +10,7 @@ use lib.Seq.{drop-cons, sets, length-sets}
 use Rattle.mps.specs.Words.{keep, joined, part}
 use Rattle.mps.specs.Layout.{Entry, destination, input}
 use Rattle.mps.specs.Sections.{rows}
-use Rattle.mps.specs.Routes.{asked, pair}
+use Rattle.mps.specs.Routes.{pair}
 use Rattle.laws.proofs.Lists.{keep-in, keep-out}
 use Rattle.laws.proofs.Rows.{rows-done, rows-next}
 use Rattle.laws.proofs.Stores.{sets-append}
@@ -100,9 +100,9 @@ module _ (ids : List ℕ) (e : Entry) where
 
 -- ---- The pairs of the rows of a slice
 
-module _ (ids : List ℕ) (itype bus irq : ℕ) (s : List ℕ) where
+module _ (ids : List ℕ) (p : Entry → Bool) (s : List ℕ) where
   abbrev pub pairsFrom : ℕ → List ℕ
-  pairsFrom at = pairsIn ids itype bus irq (rows 8 (drop at s))
+  pairsFrom at = pairsIn ids p (rows 8 (drop at s))
 
   -- From a place on: nothing whole is left, or one row and those behind it.
   module _ (at : ℕ) (h : at ≤ length s) where
@@ -110,28 +110,28 @@ module _ (ids : List ℕ) (itype bus irq : ℕ) (s : List ℕ) where
     unfolding pairsIn joined keep
     pairs-done f = rw (rows-done 8 s at h f)
 
-    -- The row is asked about, or it is not. r is what the test told.
-    module _ (f : 8 ≤ length s - at) {r : Bool} (e : r ≡ asked itype bus irq (take 8 (drop at s))) where
+    -- The row passes, or it does not. r is what the test told.
+    module _ (f : 8 ≤ length s - at) {r : Bool} (e : r ≡ p (take 8 (drop at s))) where
       abbrev here : List ℕ
       here = pairsFor ids (part at (at + 8) s)
 
-      pairs-asked : r ≡ true → pairsFrom at ≡ here ++ pairsFrom (at + 8)
+      pairs-passed : r ≡ true → pairsFrom at ≡ here ++ pairsFrom (at + 8)
       unfolding pairsIn joined
-      pairs-asked g =
+      pairs-passed g =
           let n : at + 8 - at ≡ 8 = omega arith in
-          rw (rows-next 8 s at (omega arith) h f, keep-in (asked itype bus irq) (take 8 (drop at s)) (rows 8 (drop (at + 8) s)) (sym e ∙ g), n)
+          rw (rows-next 8 s at (omega arith) h f, keep-in p (take 8 (drop at s)) (rows 8 (drop (at + 8) s)) (sym e ∙ g), n)
 
       pairs-other : r ≡ false → pairsFrom at ≡ pairsFrom (at + 8)
       unfolding pairsIn
       pairs-other g =
-          rw (rows-next 8 s at (omega arith) h f, keep-out (asked itype bus irq) (take 8 (drop at s)) (rows 8 (drop (at + 8) s)) (sym e ∙ g))
+          rw (rows-next 8 s at (omega arith) h f, keep-out p (take 8 (drop at s)) (rows 8 (drop (at + 8) s)) (sym e ∙ g))
 
       pub pairs-room : r ≡ true → length here ≤ length (pairsFrom at)
-      pairs-room g = omega (arith, ap length (pairs-asked g), length-append here (pairsFrom (at + 8)))
+      pairs-room g = omega (arith, ap length (pairs-passed g), length-append here (pairsFrom (at + 8)))
 
       module _ {t w out u : List ℕ} {from place q : ℕ} (inv : Writes t from w out place (pairsFrom at)) where
         pub pairs-put : r ≡ true → q ≡ place + length here → u ≡ sets out place here → Writes t from w u q (pairsFrom (at + 8))
-        pairs-put g = writes-next inv here (pairsFrom (at + 8)) (pairs-asked g)
+        pairs-put g = writes-next inv here (pairsFrom (at + 8)) (pairs-passed g)
 
         pub pairs-pass : r ≡ false → q ≡ place → u ≡ out → Writes t from w u q (pairsFrom (at + 8))
         pairs-pass g k l = rw (k, l, ← pairs-other g) inv

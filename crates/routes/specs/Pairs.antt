@@ -11,7 +11,7 @@ use Rattle.mps.specs.Refusals.{roomNumber}
 use Rattle.mps.specs.Layout.{Entry, enabled, idOf, destination, everyone}
 use Rattle.mps.specs.Rules.{Side, ioSide, localSide}
 use Rattle.mps.specs.Sections.{rows}
-use Rattle.mps.specs.Routes.{asked, pair, pairSize}
+use Rattle.mps.specs.Routes.{pair, pairSize}
 use Rattle.mps.specs.declared.Routed.{Routed}
 use Rattle.mps.specs.declared.Routed.the-variants.{Pairs, Refused}
 use Rattle.sets.specs.Sets.{putAll, noNumbers}
@@ -37,12 +37,12 @@ named ids to = cond (eqb to everyone) ids (only (among to ids) (to ∷ []))
 unfoldable pub pairsFor : List ℕ → Entry → List ℕ
 pairsFor ids e = joined (pair e) (named ids (destination e))
 
--- The pairs of those interrupt entries that are asked about, and how many they are.
-unfoldable pub pairsIn : List ℕ → ℕ → ℕ → ℕ → List Entry → List ℕ
-pairsIn ids itype bus irq es = joined (pairsFor ids) (keep (asked itype bus irq) es)
+-- The pairs of those interrupt entries that pass a test, and how many they are.
+unfoldable pub pairsIn : List ℕ → (Entry → Bool) → List Entry → List ℕ
+pairsIn ids p es = joined (pairsFor ids) (keep p es)
 
-unfoldable pub countIn : List ℕ → ℕ → ℕ → ℕ → List Entry → ℕ
-countIn ids itype bus irq es = total (each (λ (e : Entry). length (named ids (destination e))) (keep (asked itype bus irq) es))
+unfoldable pub countIn : List ℕ → (Entry → Bool) → List Entry → ℕ
+countIn ids p es = total (each (λ (e : Entry). length (named ids (destination e))) (keep p es))
 
 -- "answer longer than the lent room", and what is left in it.
 unfoldable pub answered : List ℕ → List ℕ → Routed

@@ -18,11 +18,11 @@ ghost use Prim.Native.Nat.{_+_, _*_, _≤_};
 ghost use lib.ListN.{length, take, drop};
 ghost use lib.Seq.{sets};
 ghost use Rattle.mps.specs.Words.{twice, joined};
-ghost use Rattle.mps.specs.Layout.{entrySize, destination};
+ghost use Rattle.mps.specs.Layout.{entrySize};
 ghost use Rattle.mps.specs.Rules.{ioSide, localSide};
 ghost use Rattle.mps.specs.Sections.{rows};
 ghost use Rattle.mps.specs.Judge.{tableRefusal};
-ghost use Rattle.mps.specs.Routes.{asked as isAsked, pair, pairSize, routed, routesLeft};
+ghost use Rattle.mps.specs.Routes.{asked as isAsked, pair, pairSize, routesOf, routed, routesLeft};
 ghost use Rattle.sets.specs.Sets.{putAll, noNumbers};
 ghost use Rattle.judge.specs.Placed.{Placed};
 ghost use Rattle.routes.specs.Pairs.{sideOf, enabledIn, gathered, named, pairsFor, pairsIn, countIn, answered, answerLeft};
@@ -76,15 +76,34 @@ fn behind_table(
 {
     let buses = p.buses;
     let ioapics = p.ioapics;
-    let interrupts = p.interrupts;
-    let locals = p.locals;
-    let end = p.mappings;
     if layout::INTERRUPT_TYPE_MOST < itype {
         return Routed::Refused(24);
     }
     if !buses::is_listed(&t[buses..ioapics], bus) {
         return Routed::Refused(24);
     }
+    of_side(t, p, local, itype, bus, irq, out)
+}
+
+// Apart from 24's tests, since what a side answers asks nothing of them.
+fn of_side(
+    t: &[u8],
+    p: Sections,
+    local: bool,
+    itype: u8,
+    bus: u8,
+    irq: u8,
+    out: &mut [u8],
+) -> Routed
+    requires { ⌜ (tableRefusal (now t) ≡ 0) × (Placed (now t) p) ⌝ }
+    ensures { λ r. ⌜ r ≡ answered (routesOf (sideOf local) (now (t .entry)) itype bus irq) (now (out .entry)) ⌝ }
+    ensures { λ _. ⌜ now (out .exit) ≡ answerLeft (routesOf (sideOf local) (now (t .entry)) itype bus irq) (now (out .entry)) ⌝ }
+{
+    let buses = p.buses;
+    let ioapics = p.ioapics;
+    let interrupts = p.interrupts;
+    let locals = p.locals;
+    let end = p.mappings;
     if local {
         return answer(
             &t[layout::HEADER_SIZE..buses],
@@ -119,8 +138,8 @@ fn answer(
     out: &mut [u8],
 ) -> Routed
     requires { ⌜ (4 ≤ size) × (twice (enabledIn size (now targets)) ≡ false) × (length (now entries) ≤ 65535) ⌝ }
-    ensures { λ r. ⌜ r ≡ answered (pairsIn (enabledIn size (now (targets .entry))) itype bus irq (rows entrySize (now (entries .entry)))) (now (out .entry)) ⌝ }
-    ensures { λ _. ⌜ now (out .exit) ≡ answerLeft (pairsIn (enabledIn size (now (targets .entry))) itype bus irq (rows entrySize (now (entries .entry)))) (now (out .entry)) ⌝ }
+    ensures { λ r. ⌜ r ≡ answered (pairsIn (enabledIn size (now (targets .entry))) (isAsked itype bus irq) (rows entrySize (now (entries .entry)))) (now (out .entry)) ⌝ }
+    ensures { λ _. ⌜ now (out .exit) ≡ answerLeft (pairsIn (enabledIn size (now (targets .entry))) (isAsked itype bus irq) (rows entrySize (now (entries .entry)))) (now (out .entry)) ⌝ }
 {
     let mut list = [0; 256];
     let to = gather(&mut list, targets, size);
@@ -183,7 +202,7 @@ fn names(ids: &[u8], set: Numbers, to: u8) -> usize
 // How many pairs there are.
 fn count(s: &[u8], itype: u8, bus: u8, irq: u8, ids: &[u8], set: Numbers) -> usize
     requires { ⌜ (set ≡ putAll noNumbers (now ids)) × (length (now ids) ≤ 256) × (length (now s) ≤ 65535) ⌝ }
-    ensures { λ r. ⌜ r ≡ countIn (now (ids .entry)) itype bus irq (rows entrySize (now (s .entry))) ⌝ }
+    ensures { λ r. ⌜ r ≡ countIn (now (ids .entry)) (isAsked itype bus irq) (rows entrySize (now (s .entry))) ⌝ }
     ensures { λ r. ⌜ r ≤ 32 * length (now (s .entry)) ⌝ }
 {
     let mut pairs = 0;
@@ -243,8 +262,8 @@ fn put_named(out: &mut [u8], at: usize, entry: &[u8], ids: &[u8], set: Numbers) 
 // All pairs, from the room's first byte on.
 fn write(out: &mut [u8], s: &[u8], itype: u8, bus: u8, irq: u8, ids: &[u8], set: Numbers)
     requires { ⌜ set ≡ putAll noNumbers (now ids) ⌝ }
-    requires { ⌜ length (pairsIn (now ids) itype bus irq (rows entrySize (now s))) ≤ length (now out) ⌝ }
-    ensures { λ _. ⌜ now (out .exit) ≡ sets (now (out .entry)) 0 (pairsIn (now (ids .entry)) itype bus irq (rows entrySize (now (s .entry)))) ⌝ }
+    requires { ⌜ length (pairsIn (now ids) (isAsked itype bus irq) (rows entrySize (now s))) ≤ length (now out) ⌝ }
+    ensures { λ _. ⌜ now (out .exit) ≡ sets (now (out .entry)) 0 (pairsIn (now (ids .entry)) (isAsked itype bus irq) (rows entrySize (now (s .entry)))) ⌝ }
 {
     let mut place = 0;
     let mut at = 0;

@@ -3,7 +3,7 @@ use mathlib.Core.Path.{sym}
 use native.Mathlib.Omega.{arith}
 use borrow.Author.Needs.{needs}
 use Rattle.judge.proofs.Laws.{accepted-number, accepted-places, refused-number, refused-some}
-use Rattle.addresses.proofs.Laws.{seen-refused}
+use Rattle.addresses.proofs.Laws.{refused-seen}
 use Rattle.addresses.proofs.seen.Statement.{statement}
 use Rattle.addresses.proofs.seen.Tie as tie
 
@@ -31,7 +31,7 @@ returns c =
     let a = s .args in
     let e = c .before .before .before .examine .ensures in
     let q = c .before .found .given .1 in
-    seen-refused (a .t .now) (a .bus) (a .kind) (a .address) _ (refused-number (a .t .now) e q) (refused-some (a .t .now) e q)
+    refused-seen (a .t .now) (a .bus) (a .kind) (a .address) _ (refused-number (a .t .now) e q) (refused-some (a .t .now) e q)
 
 returns-2 : tie.Need-returns-2
 returns-2 c = search needs

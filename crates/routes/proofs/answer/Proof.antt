@@ -4,6 +4,7 @@ use mathlib.Core.Path.{_≡_}
 use native.Mathlib.Omega.{arith}
 use lib.ListN.{length, take}
 use borrow.Author.Needs.{needs}
+use Rattle.mps.specs.Routes.{asked}
 use Rattle.routes.specs.Pairs.{enabledIn}
 use Rattle.routes.proofs.Answering.{ids-most, ids-inside, ids-read, ids-known, answer-short, answer-room, answer-put}
 use Rattle.routes.proofs.answer.Statement.{statement}
@@ -50,7 +51,7 @@ returns : tie.Need-returns
 returns c =
     let g = c .before .before .before .before .before .before in
     let a = g .before .before .before .before .before .args in
-    answer-short (enabledIn (a .size) (a .targets .now)) (a .itype) (a .bus) (a .irq) _ (a .out .now) (read g)
+    answer-short (enabledIn (a .size) (a .targets .now)) (asked (a .itype) (a .bus) (a .irq)) _ (a .out .now) (read g)
     (c .before .count .ensures .0) (c .if1 .taken)
 
 write-requires : tie.Need-write-requires
@@ -59,7 +60,7 @@ write-requires c κs =
     let a = g .before .before .before .before .before .args in
     let k = ids-known _ _ (most (g .before)) (g .gather .ensures .0) (g .gather .ensures .1) in (
       k .0,
-      answer-room (enabledIn (a .size) (a .targets .now)) (a .itype) (a .bus) (a .irq) _ (a .out .now) (read g)
+      answer-room (enabledIn (a .size) (a .targets .now)) (asked (a .itype) (a .bus) (a .irq)) _ (a .out .now) (read g)
           (c .before .before .count .ensures .0) (c .before .if1 .left),
     )
 
@@ -71,7 +72,7 @@ returns-2 c =
     let n = c .before .before .before .before .before in
     let g = n .before .before .before .before .before in
     let a = g .before .before .before .before .before .args in
-    answer-put (enabledIn (a .size) (a .targets .now)) (a .itype) (a .bus) (a .irq) _ (a .out .now) (read g)
+    answer-put (enabledIn (a .size) (a .targets .now)) (asked (a .itype) (a .bus) (a .irq)) _ (a .out .now) (read g)
     (n .count .ensures .0) (c .before .before .before .before .if1 .left) (c .before .before .write .ensures)
 
 pub answer-spec : {M : Type 1} → statement M

@@ -4,12 +4,13 @@ use mathlib.Core.Logic.{⊎-elim}
 use native.Mathlib.Omega.{arith}
 use lib.ListN.{length, getD}
 use borrow.Author.Needs.{needs}
+use Rattle.mps.specs.Routes.{asked}
 use Rattle.routes.proofs.Counting.{named-most, Counts, counts-done, counts-named, counts-other}
 use Rattle.routes.proofs.count.Statement.{statement}
 use Rattle.routes.proofs.count.Tie as tie
 
 abbrev Inv-loop : tie.InvT-loop
-Inv-loop s itype bus irq ids set pairs₀ at₀ pairs at = Counts ids itype bus irq s pairs at
+Inv-loop s itype bus irq ids set pairs₀ at₀ pairs at = Counts ids (asked itype bus irq) s pairs at
 
 abbrev μ-loop : tie.MeasureT-loop
 μ-loop s itype bus irq ids set pairs₀ at₀ pairs at = length s - at
@@ -50,12 +51,12 @@ loop-again c =
     let l = c .before .before .before .loop in
     let told = c .before .asked .ensures in
     ⊎-elim
-    (λ w. rw (w .3) (counts-named _ _ _ _ _ _ _ (l .inv) (omega arith) told _ (w .0 .taken) (omega arith) (w .2 .ensures)))
-    (λ w. rw (w .1) (counts-other _ _ _ _ _ _ _ (l .inv) (omega arith) told (w .0 .left)))
+    (λ w. rw (w .3) (counts-named _ _ _ _ _ (l .inv) (omega arith) told _ (w .0 .taken) (omega arith) (w .2 .ensures)))
+    (λ w. rw (w .1) (counts-other _ _ _ _ _ (l .inv) (omega arith) told (w .0 .left)))
     (c .if1 .came)
 
 returns : tie.Need-returns Inv-loop μ-loop
-returns c = counts-done _ _ _ _ _ _ _ (c .before .loop .inv) (omega arith)
+returns c = counts-done _ _ _ _ _ (c .before .loop .inv) (omega arith)
 
 pub count-spec : {M : Type 1} → statement M
 count-spec =
