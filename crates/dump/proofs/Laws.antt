@@ -1,5 +1,5 @@
 -- What a caller may use of the dump reader's answers. Assumes nothing.
-use Prim.Native.Nat.{ℕ, zero, suc, _≤_, _<_}
+use Prim.Native.Nat.{ℕ, zero, suc, _-_, _≤_, _<_}
 use mathlib.Core.Path.{_≡_, refl, ap, sym, _∙_}
 use mathlib.Core.Bool.{Bool, true, false, not, true≢false}
 use mathlib.Core.List.{List}
@@ -7,7 +7,7 @@ use native.Mathlib.Omega.{arith}
 use lib.ListN.{length, getD}
 use borrow.Author.Tests.{not-false}
 use Rattle.mps.specs.Words.{part, among, each, only, first}
-use Rattle.mps.specs.Layout.{feature1}
+use Rattle.mps.specs.Layout.{dumpMost, feature1}
 use Rattle.mps.specs.Refusals.{refusal}
 use Rattle.mps.specs.Answers.{heldOf, heldNumbers}
 use Rattle.mps.specs.Dump.{soundDump}
@@ -17,7 +17,8 @@ use Rattle.mps.specs.declared.Held.{Held}
 use Rattle.mps.specs.declared.Held.the-variants.{Default, Table, Refused}
 use Rattle.laws.proofs.Tests.{whether}
 use Rattle.laws.proofs.Refusals.{first-some, first-none, refusal-append, refusal-pass, refusal-end}
-use Rattle.regions.proofs.Laws.{holding-inside}
+use Rattle.regions.proofs.Rules.{sound-parts}
+use Rattle.regions.proofs.Laws.{holding-inside, holding-shorter}
 
 -- ---- Enums taken apart
 
@@ -67,6 +68,10 @@ dump-number :
 unfolding dumpRefusal dumpRules pointerRules among each
 dump-number d = refusal-append (pointerRules d) (only (not (isDefault d)) (tableRules (tableIn d))) refl
 
+-- A dump that is not refused has passed 1 to 4.
+pub held-none : (d : List ℕ) → dumpRefusal d ≡ 0 → refusal (pointerRules d) ≡ 0
+held-none d e = first-none (refusal (pointerRules d)) _ (sym (dump-number d) ∙ e) .0
+
 -- ---- What the pointer's answer says of the dump
 
 pub pointed-refused : (d : List ℕ) (n : ℕ) → pointed d ≡ Refused n → (dumpRefusal d ≡ n) × (0 < n)
@@ -97,6 +102,8 @@ pub record Pointed (d : List ℕ) (p b a s e : ℕ) : Type 0 where
   pub bytes : tableIn d ≡ part s e d
   pub order : s ≤ e
   pub inside : e ≤ length d
+  pub shorter : e - s < length d
+  pub most : length d ≤ dumpMost
 
 -- Its place, where the dump is sound.
 table-order : (d : List ℕ) → soundDump d ≡ true → tableStart d ≤ tableEnd d
@@ -107,7 +114,11 @@ table-inside : (d : List ℕ) → soundDump d ≡ true → tableEnd d ≤ length
 unfolding tableEnd
 table-inside d s = holding-inside d (tableAddress d) s .0
 
-passed-sound : (d : List ℕ) → refusal (pointerRules d) ≡ 0 → soundDump d ≡ true
+table-shorter : (d : List ℕ) → soundDump d ≡ true → tableEnd d - tableStart d < length d
+unfolding tableStart tableEnd
+table-shorter d s = omega (arith, holding-shorter d (tableAddress d) s)
+
+pub passed-sound : (d : List ℕ) → refusal (pointerRules d) ≡ 0 → soundDump d ≡ true
 unfolding pointerRules
 passed-sound d e = not-false (soundDump d) (refusal-pass 1 (not (soundDump d)) _ (omega arith) e .0)
 
@@ -131,6 +142,8 @@ pointed-table d p b a s e w =
       bytes = rw (← start, ← end);
       order = rw (← start, ← end) (table-order d sound);
       inside = rw (← end) (table-inside d sound);
+      shorter = rw (← start, ← end) (table-shorter d sound);
+      most = sound-parts d sound .most;
     })
 
 -- ---- The reader's answer, from the dump's number
@@ -142,7 +155,7 @@ held-refused d (suc n) e z = rw e
 
 pub held-accepted : (d : List ℕ) {r : Held} → dumpRefusal d ≡ 0 → r ≡ pointed d → r ≡ held d
 unfolding held pointed
-held-accepted d e q = q ∙ rw (e, first-none (refusal (pointerRules d)) _ (sym (dump-number d) ∙ e) .0)
+held-accepted d e q = q ∙ rw (e, held-none d e)
 
 -- ---- The dump, from the reader's answer
 
@@ -154,7 +167,7 @@ held-pointed : (d : List ℕ) {r : Held} → held d ≡ r → isRefused r ≡ fa
 unfolding held pointed
 held-pointed d e f =
     let q = not-refused (dumpRefusal d) e f in
-    (q .0, rw (first-none (refusal (pointerRules d)) _ (sym (dump-number d) ∙ q .0) .0) (q .1))
+    (q .0, rw (held-none d (q .0)) (q .1))
 
 pub held-default :
     (d : List ℕ) (n b : ℕ) → held d ≡ Default n b

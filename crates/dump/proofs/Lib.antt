@@ -1,3 +1,4 @@
 pub mod Spots
 pub mod Told
 pub mod Laws
+pub mod Narrow

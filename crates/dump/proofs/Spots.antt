@@ -1,16 +1,16 @@
 -- Laws of the search: the regions in its order, and the first good candidate of each and of all. Assumes nothing.
-use Prim.Native.Nat.{ℕ, _+_, _%_, _≤_}
+use Prim.Native.Nat.{ℕ, _+_, _%_, _≤_, _<_}
 use mathlib.Core.Path.{_≡_, refl, ap, sym, _∙_}
-use mathlib.Core.Bool.{Bool, true, _&&_, true≢false}
+use mathlib.Core.Bool.{Bool, true, false, _&&_, true≢false}
 use mathlib.Core.List.{List, [], _∷_, _++_, append-nil}
 use native.Mathlib.Omega.{arith}
 use lib.ListN.{length, take}
 use lib.Dec.{leb, eqb}
 use borrow.Author.Tests.{leb-true, eq-eqb, ne-eqb}
-use Rattle.mps.specs.Words.{cut, only, keep, any, joined}
+use Rattle.mps.specs.Words.{cut, only, keep, any, none, joined}
 use Rattle.mps.specs.Layout.{pointerSize, regionStep, memoryEnd}
 use Rattle.mps.specs.Dump.{endOf, body, ofKind, regions, kindRule, soundRegion, soundDump}
-use Rattle.mps.specs.Pointer.{Candidate, candidates, addressed, goodOne, searched, pointers}
+use Rattle.mps.specs.Pointer.{Candidate, candidates, addressed, goodOne, searched, pointers, noPointer}
 use Rattle.mps.specs.declared.Region.{Region}
 use Rattle.laws.proofs.Tests.{whether, and-parts}
 use Rattle.laws.proofs.Lists.{keep-append}
@@ -191,3 +191,41 @@ module _ (d : List ℕ) (cs : List Candidate) {x : Spotted} (s : Spots d cs x) w
   pub spotted-none : x ≡ Nowhere → cs ≡ []
   unfolding Spots
   spotted-none q = rw q at s
+
+-- ---- Where a pointer is, one is spotted, and its address has four bytes
+
+pub record Spot (d : List ℕ) : Type 0 where
+  pub address : ℕ
+  pub place : ℕ
+  pub there : SpotsAt d (pointers d) address place
+  pub low : address < memoryEnd
+
+spot-in :
+    {C : Type 0} (d : List ℕ) (r : Region) → Fits d r → (keep goodOne (candidates d r) ≡ [] → C)
+    → ((a p : ℕ) → SpotsAt d (keep goodOne (candidates d r)) a p → a < memoryEnd → C) → C
+unfolding Spots
+spot-in {C} d r fits none some = cases (searchOf (body d r)) refl
+  where
+    cases : (x : Searched) → searchOf (body d r) ≡ x → C
+    cases (Searched·At at) q =
+        some (r .base + at) (r .offset + at) (spots-at d r fits refl at q)
+        (omega (arith, found-inside d r fits refl at q, fits .1))
+    cases Nothing q = none (spots-nothing d r fits refl q)
+
+pub spot : (d : List ℕ) → soundDump d ≡ true → noPointer d ≡ false → Spot d
+unfolding noPointer
+spot d sound n =
+    let first = searchedFirst (regions d) in
+    let rom = firstOfKind 3 (regions d) in
+    let all = pointers-are d sound in
+    spot-in d first (first-fits d sound)
+    (λ e.
+    spot-in d rom (kind-fits d sound 3)
+    (λ f. absurd (true≢false (sym (ap none (rw (e, f) at all)) ∙ n)))
+    (λ a p w l. record { address = a; place = p; there = rw (all, e) w; low = l }))
+    (λ a p w l. record {
+      address = a;
+      place = p;
+      there = rw all (spots-before d (keep goodOne (candidates d first)) (keep goodOne (candidates d rom)) w);
+      low = l;
+    })

@@ -11,7 +11,7 @@ use mps::Fields;
 use mps::Parted;
 use mps::Written;
 use mps::layout;
-ghost use Prim.Native.Nat.{_≤_};
+ghost use Prim.Native.Nat.{_+_, _≤_};
 ghost use lib.ListN.{length};
 
 // Where the counts of refusals with 23 begin, by their inner number.
@@ -116,16 +116,23 @@ fn steps(
     made
 }
 
+// The counts of some numbers in a row, each behind the same words and its number.
+fn listed(words: &[u8], counts: &[u64; 512], first: usize, last: usize, shift: usize)
+    requires { ⌜ last + shift ≤ 511 ⌝ }
+{
+    let mut k = first;
+    while k <= last {
+        print::counted(words, k as u64);
+        print::counted(b": ", counts[k + shift]);
+        k += 1;
+    }
+}
+
 fn report(counts: &[u64; 512]) {
     print::counted(b" edits, ", counts[0]);
     print::counted(b" done; refused with 20: ", counts[20]);
-    print::counted(b", 21: ", counts[21]);
-    print::counted(b", 22: ", counts[22]);
-    print::counted(b", 23 and 14: ", counts[INNER + 14]);
-    print::counted(b", 23 and 15: ", counts[INNER + 15]);
-    print::counted(b", 23 and 16: ", counts[INNER + 16]);
-    print::counted(b", 23 and 17: ", counts[INNER + 17]);
-    print::counted(b", 23 and 18: ", counts[INNER + 18]);
+    listed(b", ", counts, 21, 22, 0);
+    listed(b", 23 and ", counts, 14, 18, INNER);
 }
 
 fn ended(t: &[u8], after: &[u8]) {

@@ -7,7 +7,7 @@
 use crate::print;
 use mps::Fields;
 use mps::Written;
-ghost use Prim.Native.Nat.{_≤_};
+ghost use Prim.Native.Nat.{_+_, _≤_};
 ghost use lib.ListN.{length};
 
 const FIELDS_SIZE: usize = 31;
@@ -110,13 +110,21 @@ fn case(fields: Fields, base: &[u8], extended: &[u8], room: &[u8], after: &[u8])
     );
 }
 
+// Where a packed part ends that begins at a place. Past the end of s the number of its bytes reads as 0.
+fn packed_end(s: &[u8], at: usize) -> usize
+    requires { ⌜ at ≤ 200000 ⌝ }
+    ensures { λ r. ⌜ (at + 6 ≤ r) × (r ≤ at + 65541) ⌝ }
+{
+    at + 6 + numbers::le16(s, at + 2) as usize
+}
+
 pub fn record(name: &[u8], s: &[u8]) -> usize
     ensures { λ r. ⌜ r ≤ length (now (s .entry)) ⌝ }
 {
-    let extended = FIELDS_SIZE + 6 + numbers::le16(s, FIELDS_SIZE + 2) as usize;
-    let room = extended + 6 + numbers::le16(s, extended + 2) as usize;
-    let after = room + 6 + numbers::le16(s, room + 2) as usize;
-    let end = after + 6 + numbers::le16(s, after + 2) as usize;
+    let extended = packed_end(s, FIELDS_SIZE);
+    let room = packed_end(s, extended);
+    let after = packed_end(s, room);
+    let end = packed_end(s, after);
     if s.len() < end {
         return 0;
     }

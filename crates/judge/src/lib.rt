@@ -87,8 +87,8 @@ fn behind_base(t: &[u8], p: Sections) -> Examined
         return Examined::Refused(13);
     }
     let base = p.mappings;
-    let size = numbers::le16(t, layout::EXTENDED_LENGTH) as usize;
-    let walked = sections::extended(&t[base..base + size]);
+    let end = base + numbers::le16(t, layout::EXTENDED_LENGTH) as usize;
+    let walked = sections::extended(&t[base..end]);
     match walked {
         ExtendedSections::Faulty => Examined::Refused(13),
         ExtendedSections::Ascending {
@@ -106,7 +106,7 @@ fn behind_base(t: &[u8], p: Sections) -> Examined
                 links: base + links,
                 modifiers: base + modifiers,
                 others: base + others,
-                end: base + size,
+                end: end,
             },
         ),
     }
@@ -133,15 +133,12 @@ fn from_14(t: &[u8], p: Sections) -> u8
     if numbers::le32(t, layout::LOCAL_APIC) % layout::LOCAL_APIC_STEP != 0 {
         return 14;
     }
-    if apics::wrong_boot(&t[layout::HEADER_SIZE..end]) {
+    let entries = &t[layout::HEADER_SIZE..end];
+    if apics::wrong_boot(entries) {
         return 14;
     }
     let only255 = sets::put(sets::empty(), layout::EVERYONE);
-    let cpus = apics::claim(
-        &t[layout::HEADER_SIZE..end],
-        layout::PROCESSOR_SIZE,
-        only255,
-    );
+    let cpus = apics::claim(entries, layout::PROCESSOR_SIZE, only255);
     if cpus.twice {
         return 14;
     }
@@ -171,11 +168,12 @@ fn from_16(t: &[u8], p: Sections, buses: Numbers, cpus: Numbers, taken: Numbers)
 {
     let start = p.ioapics;
     let end = p.interrupts;
-    let ios = apics::claim(&t[start..end], layout::ENTRY_SIZE, taken);
+    let entries = &t[start..end];
+    let ios = apics::claim(entries, layout::ENTRY_SIZE, taken);
     if ios.twice {
         return 16;
     }
-    if apics::misplaced(&t[start..end]) {
+    if apics::misplaced(entries) {
         return 16;
     }
     from_17(t, p, buses, ios.all, cpus)
@@ -212,13 +210,15 @@ fn from_18(t: &[u8], p: Sections, buses: Numbers) -> u8
     if spaces::wrong_mappings(&t[start..links], buses) {
         return 18;
     }
-    if spaces::wrong_links(&t[links..modifiers], buses) {
+    let tree = &t[links..modifiers];
+    if spaces::wrong_links(tree, buses) {
         return 18;
     }
-    if spaces::wrong_modifiers(&t[modifiers..others], buses) {
+    let changes = &t[modifiers..others];
+    if spaces::wrong_modifiers(changes, buses) {
         return 18;
     }
-    if parents::wrong(&t[links..modifiers]) {
+    if parents::wrong(tree) {
         return 18;
     }
     0

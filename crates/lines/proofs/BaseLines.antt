@@ -107,15 +107,21 @@ module _ (e : Entry) {t u v w : List ℕ} {at p q r : ℕ} where
       (next (decimal (destination e)) c (last (decimal (input e)) d))) .wrote
 
   pub interrupt-is :
-      {x y : List ℕ} {s end kind : ℕ} (word : List ℕ) → kind ≡ byte e 1 → Wrote t at word u p
-      → Wrote u p (32 ∷ ended (interruptName kind) 32) v q → Wrote v q (ended (decimal (byte e 4)) 32) w r
-      → Wrote w r (ended (decimal (byte e 5)) 32) x s → Wrote x s (line (decimal (polarity e)) (signalled e)) y end
-      → Wrote t at (interruptLine word e) y end
-  unfolding interruptLine line ended
-  interrupt-is {x} {y} {s} {end} word k a b c d f =
-      let rest : Line x s (decimal (polarity e)) (signalled e) y end = record { wrote = f } in
-      then a (next (32 ∷ interruptName (byte e 1)) (rw k at b)
-      (next (decimal (byte e 4)) c (next (decimal (byte e 5)) d rest)) .wrote)
+      {x : List ℕ} {s kind : ℕ} → kind ≡ byte e 1 → Wrote t at (32 ∷ ended (interruptName kind) 32) u p
+      → Wrote u p (ended (decimal (byte e 4)) 32) v q → Wrote v q (ended (decimal (byte e 5)) 32) w r
+      → Wrote w r (line (decimal (polarity e)) (signalled e)) x s
+      → Wrote t at (32 ∷ line (interruptName (byte e 1)) (decimal (byte e 4) ∷ decimal (byte e 5) ∷ decimal (polarity e) ∷ signalled e)) x s
+  unfolding line ended
+  interrupt-is {x} {s} k a b c d =
+      let rest : Line w r (decimal (polarity e)) (signalled e) x s = record { wrote = d } in
+      next (32 ∷ interruptName (byte e 1)) (rw k at a) (next (decimal (byte e 4)) b (next (decimal (byte e 5)) c rest)) .wrote
+
+pub interrupt-line :
+    {t u v : List ℕ} {at p q : ℕ} (e : Entry) (word : List ℕ) → Wrote t at word u p
+    → Wrote u p (32 ∷ line (interruptName (byte e 1)) (decimal (byte e 4) ∷ decimal (byte e 5) ∷ decimal (polarity e) ∷ signalled e)) v q
+    → Wrote t at (interruptLine word e) v q
+unfolding interruptLine line
+interrupt-line e word a b = then a b
 
 -- ---- The line of an entry, by its type
 
@@ -123,10 +129,6 @@ module _ {t u : List ℕ} {at r : ℕ} (e : Entry) (kind : ℕ) (is : kind ≡ b
   pub cpu-first : kind ≡ 0 → Wrote t at (cpuLine e) u r → Wrote t at (baseLine e) u r
   unfolding baseLine
   cpu-first h a = rw (← is, h) a
-
-  pub bus-first : kind ≡ 1 → Wrote t at (busLine e) u r → Wrote t at (baseLine e) u r
-  unfolding baseLine
-  bus-first h a = rw (← is, h) a
 
   pub io-apic-first : kind ≡ 2 → Wrote t at (ioApicLine e) u r → Wrote t at (baseLine e) u r
   unfolding baseLine

@@ -12,7 +12,7 @@ use Rattle.mps.specs.Numbers.{le}
 use Rattle.mps.specs.Layout.{Entry}
 use Rattle.mps.specs.Listing.{decimal, hex, mapLine, treeLine, modLine, skipLine, extendedLine}
 use Rattle.text.specs.Text.{ended}
-use Rattle.lines.specs.Wrote.{Wrote}
+use Rattle.lines.specs.Wrote.{Wrote, spaceLine}
 use Rattle.lines.proofs.Laws.{last, next}
 
 -- ---- From its words, each a field of the entry
@@ -27,15 +27,14 @@ low-flag n = rw div-one (cases (n % 2) (omega arith))
     cases (suc (suc k)) h = absurd (omega (arith, h))
 
 pub map-is :
-    {t u v x y z : List ℕ} {at p q r s l base size : ℕ} (e : Entry) → base ≡ le 8 e 4 → size ≡ le 8 e 12
+    {t u v x y z : List ℕ} {at p q r s l : ℕ} (e : Entry) (base size : ℕ)
     → Wrote t at (ended (text "map") 32) u p → Wrote u p (ended (decimal (getD e 2 0)) 32) v q
     → Wrote v q (ended (decimal (getD e 3 0)) 32) x r → Wrote x r (ended (hex 16 base) 32) y s
-    → Wrote y s (ended (hex 16 size) 10) z l → Wrote t at (mapLine e) z l
-unfolding mapLine
-map-is {base = base} {size} e h i a b c d j =
-    rw (← h, ← i)
-    (next (text "map") a (next (decimal (getD e 2 0)) b (next (decimal (getD e 3 0)) c
-    (next (hex 16 base) d (last (hex 16 size) j)))) .wrote)
+    → Wrote y s (ended (hex 16 size) 10) z l → Wrote t at (spaceLine e base size) z l
+unfolding spaceLine
+map-is e base size a b c d j =
+    next (text "map") a (next (decimal (getD e 2 0)) b (next (decimal (getD e 3 0)) c
+    (next (hex 16 base) d (last (hex 16 size) j)))) .wrote
 
 module _ {t u v x y : List ℕ} {at p q r s link : ℕ} (e : Entry) (g : link ≡ getD e 3 0) where
   pub tree-is :

@@ -1,17 +1,17 @@
 -- How a line comes from its words. Assumes nothing.
-use Prim.Native.Nat.{ℕ, _+_, _-_, _≤_, min}
+use Prim.Native.Nat.{ℕ, _+_, _-_, _≤_}
+use mathlib.Core.Bool.{Bool, true}
 use mathlib.Core.Path.{_≡_, ap, sym, _∙_}
 use mathlib.Core.List.{List, [], _∷_, _++_, append-assoc}
 use native.Mathlib.Omega.{arith}
-use lib.ListN.{length, length-append}
-use lib.Seq.{sets}
+use lib.ListN.{length, take, drop, length-append}
+use lib.Seq.{sets, take-append-seam}
 use lib.Dec.{leb}
-use borrow.Author.Tests.{leb-true, leb-false}
+use borrow.Author.Tests.{leb-true}
 use Rattle.mps.specs.Listing.{decimal, hex, unpadded, line}
-use Rattle.laws.proofs.Tests.{whether}
-use Rattle.laws.proofs.Stores.{sets-append, sets-past}
-use Rattle.text.specs.Text.{ended}
-use Rattle.text.proofs.Laws.{length-ended, length-decimal-most, length-hex, length-unpadded}
+use Rattle.laws.proofs.Stores.{sets-append, sets-at-start}
+use Rattle.text.specs.Text.{ended, stored}
+use Rattle.text.proofs.Laws.{length-ended, length-decimal-most, length-hex, length-unpadded, stored-fits}
 use Rattle.lines.specs.Wrote.{Wrote}
 
 -- ---- One word
@@ -21,7 +21,13 @@ pub behind :
     {t w u : List ℕ} {r : ℕ} (at n : ℕ) → r ≡ length w → u ≡ sets t at w → length w ≤ n → Wrote t at w u (at + r) × (at + r ≤ at + n)
 behind at n e f h = (record { place = ap (λ (k : ℕ). at + k) e; text = f }, omega arith)
 
-pub decimal-short : (n end : ℕ) → length (ended (decimal n) end) ≤ 16
+-- .. where it has room.
+pub behind-stored :
+    {t w u : List ℕ} {r : ℕ} (k at n : ℕ) → at + k ≤ length t → r ≡ length w → u ≡ stored k t at w → length w ≤ n
+    → Wrote t at w u (at + r) × (at + r ≤ at + n)
+behind-stored {t} {w} k at n room e f h = behind at n e (f ∙ stored-fits k t at w room) h
+
+pub decimal-short : (n end : ℕ) → length (ended (decimal n) end) ≤ 6
 decimal-short n end = omega (arith, length-ended (decimal n) end, length-decimal-most n)
 
 pub hex-short : (k n end : ℕ) → length (ended (hex k n) end) ≤ k + 1
@@ -57,15 +63,22 @@ next {t} {u} {x} {n} {at} {r} {q} {ws} w a b = record { wrote = rw (← joint w 
 
 -- ---- The whole line
 
--- Where a line may begin, nothing is lost: past the end no byte is stored, from the end neither.
-begin : (t : List ℕ) (at start : ℕ) (w : List ℕ) → start ≡ min at (length t) → sets t start w ≡ sets t at w
-begin t at start w e =
-    whether (leb at (length t))
-    (λ h. let k = leb-true at (length t) h in ap (λ (n : ℕ). sets t n w) (omega arith))
-    (λ h. let k = leb-false at (length t) h in sets-past t start w (omega arith) ∙ sym (sets-past t at w (omega arith)))
+-- Whether there is room for one.
+pub roomy-fits : {r : Bool} (t : List ℕ) (at : ℕ) → r ≡ leb (at + 128) (length t) → r ≡ true → at + 128 ≤ length t
+roomy-fits t at e h = leb-true (at + 128) (length t) (sym e ∙ h)
 
--- The whole line, from where it may begin: what the contract says of its length and of the room.
-pub whole :
-    {u : List ℕ} {start r : ℕ} (t : List ℕ) (at : ℕ) (w : List ℕ) → start ≡ min at (length t) → Wrote t start w u r
-    → (r - start ≡ length w) × (u ≡ sets t at w)
-whole {u} {start} {r} t at w e a = (omega (arith, a .place), a .text ∙ begin t at start w e)
+-- A line that was stored in the room: what the contract says of its length and of the room.
+pub direct : {t w u : List ℕ} {at r : ℕ} → Wrote t at w u r → (r - at ≡ length w) × (u ≡ sets t at w)
+direct a = (omega (arith, a .place), a .text)
+
+-- A line that was made in a buffer.
+buffer-holds : (z w : List ℕ) → length w ≤ length z → take (length w) (sets z 0 w) ≡ w
+buffer-holds z w h = rw (sets-at-start z w h) (take-append-seam w (drop (length w) z))
+
+pub buffered :
+    {z w b u : List ℕ} {n r : ℕ} (t : List ℕ) (at : ℕ) → n ≤ length z → Wrote z 0 w b n → r ≡ n → u ≡ sets t at (take n b)
+    → (r ≡ length w) × (u ≡ sets t at w)
+buffered {z} {w} {b} {u} {n} t at h a e f =
+    let k : n ≡ length w = omega (arith, a .place) in
+    let g : take n b ≡ w = rw (k, a .text) (buffer-holds z w (omega arith)) in
+    (e ∙ k, f ∙ ap (sets t at) g)

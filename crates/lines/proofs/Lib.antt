@@ -2,3 +2,4 @@ pub mod Laws
 pub mod FrameLines
 pub mod ExtendedLines
 pub mod BaseLines
+pub mod Numbers

@@ -1,62 +1,108 @@
 // The lines of base entries: cpu, bus, ioapic, int and lint.
+use super::byte;
 use super::decimal;
 use super::field;
 use super::hex8;
-use super::inside;
+use super::high;
+use super::moved;
 use super::name;
+use super::roomy;
 use super::word;
 use mps::layout;
 use text::LINE_END;
 use text::SPACE;
 ghost use mathlib.Core.Path.{_≡_};
 ghost use mathlib.Core.List.{[], _∷_};
-ghost use Prim.Native.Nat.{_+_, _≤_};
+ghost use Prim.Native.Nat.{_+_, _≤_, min};
 ghost use lib.ListN.{length};
 ghost use lib.Seq.{sets};
-ghost use Rattle.mps.specs.Words.{bit};
-ghost use Rattle.mps.specs.Layout.{polarity, trigger, destination, input};
+ghost use Rattle.mps.specs.Words.{bit, byte as byteOf};
+ghost use Rattle.mps.specs.Numbers.{bytes};
+ghost use Rattle.mps.specs.Layout.{interruptType, sourceBus, sourceIrq, polarity, trigger, destination, input};
 ghost use Rattle.mps.specs.Listing.{line as lineOf, decimal as decimalOf, onOff, bootAp, interruptName};
-ghost use Rattle.mps.specs.Listing.{cpuLine, busLine, ioApicLine, interruptLine, baseLine};
+ghost use Rattle.mps.specs.Listing.{cpuLine, busLine, ioApicLine, baseLine};
 ghost use Rattle.text.specs.Text.{ended};
-ghost use Rattle.lines.specs.Wrote.{Wrote, most};
+ghost use Rattle.lines.specs.Wrote.{Wrote};
 
 // The line of a base entry, by its type.
 pub fn line(out: &mut [u8], at: usize, e: &[u8]) -> usize
     ensures { λ r. ⌜ r ≡ length (baseLine (now (e .entry))) ⌝ }
     ensures { λ _. ⌜ now (out .exit) ≡ sets (now (out .entry)) at (baseLine (now (e .entry))) ⌝ }
 {
-    let start = inside(out, at);
-    entry(out, start, e) - start
+    let x = numbers::le64(e, 0);
+    if byte(x, 0) == layout::BUS_TYPE {
+        return bus_line(out, at, e);
+    }
+    if roomy(out, at) {
+        return entry(out, at, x) - at;
+    }
+    let mut buffer: [u8; 128] = [0; 128];
+    let n = entry(&mut buffer, 0, x);
+    moved(out, at, &buffer, n)
 }
 
-// Each of these stores a line, or a word of one, and answers the place behind it. No line has more than eight words, so
-// that 128 places in front of `most` are enough.
-
-fn entry(out: &mut [u8], at: usize, e: &[u8]) -> usize
-    requires { ⌜ at + 128 ≤ most ⌝ }
-    ensures { λ r. ⌜ Wrote (now (out .entry)) at (baseLine (now (e .entry))) (now (out .exit)) r ⌝ }
+// A name may be cut short, and then its bytes do not tell how many they are.
+fn bus_line(out: &mut [u8], at: usize, e: &[u8]) -> usize
+    ensures { λ r. ⌜ r ≡ length (busLine (now (e .entry))) ⌝ }
+    ensures { λ _. ⌜ now (out .exit) ≡ sets (now (out .entry)) at (busLine (now (e .entry))) ⌝ }
 {
-    let kind = numbers::byte(e, 0);
+    if roomy(out, at) {
+        return bus(out, at, e) - at;
+    }
+    let mut buffer: [u8; 128] = [0; 128];
+    let n = bus(&mut buffer, 0, e);
+    moved(out, at, &buffer, n)
+}
+
+// Where a part of an entry ends: at the place, or at the end where that is past it.
+fn inside(e: &[u8], at: usize) -> usize
+    ensures { λ r. ⌜ r ≡ min at (length (now (e .entry))) ⌝ }
+{
+    if at < e.len() { at } else { e.len() }
+}
+
+// Each of these stores a line, or a word of one, and answers the place behind it.
+
+fn bus(out: &mut [u8], at: usize, e: &[u8]) -> usize
+    requires { ⌜ at + 128 ≤ length (now out) ⌝ }
+    ensures { λ r. ⌜ Wrote (now (out .entry)) at (busLine (now (e .entry))) (now (out .exit)) r ⌝ }
+    ensures { λ r. ⌜ r ≤ at + 128 ⌝ }
+{
+    let from = inside(e, layout::BUS_NAME);
+    let to = inside(e, layout::ENTRY_SIZE);
+    let id = numbers::byte(e, layout::ENTRY_ID);
+    let a = word(out, at, b"bus ");
+    let b = decimal(out, a, id as u32, SPACE);
+    name(out, b, &e[from..to], LINE_END)
+}
+
+// An entry of another type.
+fn entry(out: &mut [u8], at: usize, e: u64) -> usize
+    requires { ⌜ (at + 128 ≤ length (now out)) × (byteOf (bytes 8 e) 0 ≡ 1 → ⊥) ⌝ }
+    ensures { λ r. ⌜ Wrote (now (out .entry)) at (baseLine (bytes 8 e)) (now (out .exit)) r ⌝ }
+    ensures { λ r. ⌜ r ≤ at + 128 ⌝ }
+{
+    let kind = byte(e, 0);
     if kind == layout::PROCESSOR_TYPE {
         return cpu(out, at, e);
-    }
-    if kind == layout::BUS_TYPE {
-        return bus(out, at, e);
     }
     if kind == layout::IO_APIC_TYPE {
         return io_apic(out, at, e);
     }
     if kind == layout::IO_INTERRUPT_TYPE {
-        return interrupt(out, at, b"int", e);
+        let a = word(out, at, b"int");
+        return interrupt(out, a, e);
     }
-    interrupt(out, at, b"lint", e)
+    let a = word(out, at, b"lint");
+    interrupt(out, a, e)
 }
 
-fn cpu(out: &mut [u8], at: usize, e: &[u8]) -> usize
-    requires { ⌜ at + 128 ≤ most ⌝ }
-    ensures { λ r. ⌜ Wrote (now (out .entry)) at (cpuLine (now (e .entry))) (now (out .exit)) r ⌝ }
+fn cpu(out: &mut [u8], at: usize, e: u64) -> usize
+    requires { ⌜ at + 128 ≤ length (now out) ⌝ }
+    ensures { λ r. ⌜ Wrote (now (out .entry)) at (cpuLine (bytes 8 e)) (now (out .exit)) r ⌝ }
+    ensures { λ r. ⌜ r ≤ at + 128 ⌝ }
 {
-    let flags = numbers::byte(e, layout::APIC_FLAGS);
+    let flags = byte(e, layout::APIC_FLAGS);
     let a = word(out, at, b"cpu ");
     let b = field(out, a, e, layout::ENTRY_ID, SPACE);
     let c = field(out, b, e, layout::APIC_VERSION, SPACE);
@@ -64,51 +110,45 @@ fn cpu(out: &mut [u8], at: usize, e: &[u8]) -> usize
     boot_ap(out, d, flags)
 }
 
-fn bus(out: &mut [u8], at: usize, e: &[u8]) -> usize
-    requires { ⌜ at + 128 ≤ most ⌝ }
-    ensures { λ r. ⌜ Wrote (now (out .entry)) at (busLine (now (e .entry))) (now (out .exit)) r ⌝ }
+fn io_apic(out: &mut [u8], at: usize, e: u64) -> usize
+    requires { ⌜ at + 128 ≤ length (now out) ⌝ }
+    ensures { λ r. ⌜ Wrote (now (out .entry)) at (ioApicLine (bytes 8 e)) (now (out .exit)) r ⌝ }
+    ensures { λ r. ⌜ r ≤ at + 128 ⌝ }
 {
-    let from = inside(e, layout::BUS_NAME);
-    let to = inside(e, layout::ENTRY_SIZE);
-    let a = word(out, at, b"bus ");
-    let b = field(out, a, e, layout::ENTRY_ID, SPACE);
-    name(out, b, &e[from..to], LINE_END)
-}
-
-fn io_apic(out: &mut [u8], at: usize, e: &[u8]) -> usize
-    requires { ⌜ at + 128 ≤ most ⌝ }
-    ensures { λ r. ⌜ Wrote (now (out .entry)) at (ioApicLine (now (e .entry))) (now (out .exit)) r ⌝ }
-{
-    let flags = numbers::byte(e, layout::APIC_FLAGS);
-    let address = numbers::le32(e, layout::IO_APIC_ADDRESS);
+    let flags = byte(e, layout::APIC_FLAGS);
     let a = word(out, at, b"ioapic ");
     let b = field(out, a, e, layout::ENTRY_ID, SPACE);
     let c = field(out, b, e, layout::APIC_VERSION, SPACE);
     let d = on_off(out, c, flags);
-    hex8(out, d, address, LINE_END)
+    hex8(out, d, high(e), LINE_END)
 }
 
-fn interrupt(out: &mut [u8], at: usize, w: &[u8], e: &[u8]) -> usize
-    requires { ⌜ (at + 128 ≤ most) × (length (now w) ≤ 16) ⌝ }
-    ensures { λ r. ⌜ Wrote (now (out .entry)) at (interruptLine (now (w .entry)) (now (e .entry))) (now (out .exit)) r ⌝ }
-{
-    let kind = numbers::byte(e, layout::INTERRUPT_TYPE);
-    let a = word(out, at, w);
-    let b = interrupt_name(out, a, kind);
-    let c = field(out, b, e, layout::SOURCE_BUS, SPACE);
-    let d = field(out, c, e, layout::SOURCE_IRQ, SPACE);
-    signal(out, d, e)
-}
-
-// The rest of an interrupt's line: how it is signalled, and where to.
-fn signal(out: &mut [u8], at: usize, e: &[u8]) -> usize
-    requires { ⌜ at + 64 ≤ most ⌝ }
+// An interrupt's line behind its first word.
+fn interrupt(out: &mut [u8], at: usize, e: u64) -> usize
+    requires { ⌜ at + 112 ≤ length (now out) ⌝ }
     ensures { λ r.
-        let x = now (e .entry) in
+        let x = bytes 8 e in
+        let signal = decimalOf (polarity x) ∷ decimalOf (trigger x) ∷ decimalOf (destination x) ∷ decimalOf (input x) ∷ [] in
+        let words = decimalOf (sourceBus x) ∷ decimalOf (sourceIrq x) ∷ signal in
+        ⌜ Wrote (now (out .entry)) at (32 ∷ lineOf (interruptName (interruptType x)) words) (now (out .exit)) r ⌝ }
+    ensures { λ r. ⌜ r ≤ at + 112 ⌝ }
+{
+    let a = interrupt_name(out, at, byte(e, layout::INTERRUPT_TYPE));
+    let b = field(out, a, e, layout::SOURCE_BUS, SPACE);
+    let c = field(out, b, e, layout::SOURCE_IRQ, SPACE);
+    signal(out, c, e)
+}
+
+// The rest of it: how the interrupt is signalled, and where to.
+fn signal(out: &mut [u8], at: usize, e: u64) -> usize
+    requires { ⌜ at + 64 ≤ length (now out) ⌝ }
+    ensures { λ r.
+        let x = bytes 8 e in
         let words = decimalOf (trigger x) ∷ decimalOf (destination x) ∷ decimalOf (input x) ∷ [] in
         ⌜ Wrote (now (out .entry)) at (lineOf (decimalOf (polarity x)) words) (now (out .exit)) r ⌝ }
+    ensures { λ r. ⌜ r ≤ at + 64 ⌝ }
 {
-    let flags = numbers::byte(e, layout::INTERRUPT_FLAGS);
+    let flags = byte(e, layout::INTERRUPT_FLAGS);
     let a = decimal(out, at, (flags % 4) as u32, SPACE);
     let b = decimal(out, a, (flags / 4 % 4) as u32, SPACE);
     let c = field(out, b, e, layout::DESTINATION, SPACE);
@@ -116,7 +156,7 @@ fn signal(out: &mut [u8], at: usize, e: &[u8]) -> usize
 }
 
 fn on_off(out: &mut [u8], at: usize, flags: u8) -> usize
-    requires { ⌜ at ≤ most ⌝ }
+    requires { ⌜ at + 16 ≤ length (now out) ⌝ }
     ensures { λ r. ⌜ Wrote (now (out .entry)) at (ended (onOff (bit 0 flags)) 32) (now (out .exit)) r ⌝ }
     ensures { λ r. ⌜ r ≤ at + 16 ⌝ }
 {
@@ -127,7 +167,7 @@ fn on_off(out: &mut [u8], at: usize, flags: u8) -> usize
 }
 
 fn boot_ap(out: &mut [u8], at: usize, flags: u8) -> usize
-    requires { ⌜ at ≤ most ⌝ }
+    requires { ⌜ at + 16 ≤ length (now out) ⌝ }
     ensures { λ r. ⌜ Wrote (now (out .entry)) at (ended (bootAp (bit 1 flags)) 10) (now (out .exit)) r ⌝ }
     ensures { λ r. ⌜ r ≤ at + 16 ⌝ }
 {
@@ -139,7 +179,7 @@ fn boot_ap(out: &mut [u8], at: usize, flags: u8) -> usize
 
 // With a space on either side: the word in front of it comes without one.
 fn interrupt_name(out: &mut [u8], at: usize, kind: u8) -> usize
-    requires { ⌜ at ≤ most ⌝ }
+    requires { ⌜ at + 16 ≤ length (now out) ⌝ }
     ensures { λ r. ⌜ Wrote (now (out .entry)) at (32 ∷ ended (interruptName kind) 32) (now (out .exit)) r ⌝ }
     ensures { λ r. ⌜ r ≤ at + 16 ⌝ }
 {

@@ -1,8 +1,11 @@
 // The lines of extended entries: map, tree, mod and skip.
+use super::byte;
 use super::decimal;
 use super::field;
 use super::hex16;
-use super::inside;
+use super::high;
+use super::moved;
+use super::roomy;
 use super::word;
 use mps::layout;
 use text::LINE_END;
@@ -11,76 +14,103 @@ ghost use mathlib.Core.Path.{_≡_};
 ghost use Prim.Native.Nat.{_+_, _≤_};
 ghost use lib.ListN.{length};
 ghost use lib.Seq.{sets};
-ghost use Rattle.mps.specs.Listing.{mapLine, treeLine, modLine, skipLine, extendedLine};
-ghost use Rattle.lines.specs.Wrote.{Wrote, most};
-
-// Each of these stores one line and answers the place behind it. No line has 128 bytes.
-
-fn map(out: &mut [u8], at: usize, e: &[u8]) -> usize
-    requires { ⌜ at + 128 ≤ most ⌝ }
-    ensures { λ r. ⌜ Wrote (now (out .entry)) at (mapLine (now (e .entry))) (now (out .exit)) r ⌝ }
-{
-    let a = word(out, at, b"map ");
-    let b = field(out, a, e, layout::EXTENDED_BUS, SPACE);
-    let c = field(out, b, e, layout::SPACE_KIND, SPACE);
-    let d = hex16(out, c, numbers::le64(e, layout::SPACE_BASE), SPACE);
-    hex16(out, d, numbers::le64(e, layout::SPACE_LENGTH), LINE_END)
-}
-
-fn tree(out: &mut [u8], at: usize, e: &[u8]) -> usize
-    requires { ⌜ at + 128 ≤ most ⌝ }
-    ensures { λ r. ⌜ Wrote (now (out .entry)) at (treeLine (now (e .entry))) (now (out .exit)) r ⌝ }
-{
-    let a = word(out, at, b"tree ");
-    let b = field(out, a, e, layout::EXTENDED_BUS, SPACE);
-    let c = field(out, b, e, layout::PARENT_BUS, SPACE);
-    decimal(
-        out,
-        c,
-        (numbers::byte(e, layout::LINK_BIT) % 2) as u32,
-        LINE_END,
-    )
-}
-
-fn modifier(out: &mut [u8], at: usize, e: &[u8]) -> usize
-    requires { ⌜ at + 128 ≤ most ⌝ }
-    ensures { λ r. ⌜ Wrote (now (out .entry)) at (modLine (now (e .entry))) (now (out .exit)) r ⌝ }
-{
-    let a = word(out, at, b"mod ");
-    let b = field(out, a, e, layout::EXTENDED_BUS, SPACE);
-    let c = decimal(
-        out,
-        b,
-        (numbers::byte(e, layout::LINK_BIT) % 2) as u32,
-        SPACE,
-    );
-    decimal(out, c, numbers::le32(e, layout::RANGE_LIST), LINE_END)
-}
-
-fn skip(out: &mut [u8], at: usize, e: &[u8]) -> usize
-    requires { ⌜ at + 128 ≤ most ⌝ }
-    ensures { λ r. ⌜ Wrote (now (out .entry)) at (skipLine (now (e .entry))) (now (out .exit)) r ⌝ }
-{
-    let a = word(out, at, b"skip ");
-    let b = field(out, a, e, 0, SPACE);
-    field(out, b, e, layout::ENTRY_LENGTH, LINE_END)
-}
+ghost use Rattle.mps.specs.Listing.{treeLine, modLine, skipLine, extendedLine};
+ghost use Rattle.mps.specs.Words.{byte as byteOf};
+ghost use Rattle.mps.specs.Numbers.{bytes};
+ghost use Rattle.lines.specs.Wrote.{Wrote, spaceLine};
 
 // The line of an extended entry, by its type.
 pub fn line(out: &mut [u8], at: usize, e: &[u8]) -> usize
     ensures { λ r. ⌜ r ≡ length (extendedLine (now (e .entry))) ⌝ }
     ensures { λ _. ⌜ now (out .exit) ≡ sets (now (out .entry)) at (extendedLine (now (e .entry))) ⌝ }
 {
-    let start = inside(out, at);
-    let kind = numbers::byte(e, 0);
-    if kind == layout::MAPPING_TYPE {
-        return map(out, start, e) - start;
+    let x = numbers::le64(e, 0);
+    if byte(x, 0) == layout::MAPPING_TYPE {
+        let base = numbers::le64(e, layout::SPACE_BASE);
+        let size = numbers::le64(e, layout::SPACE_LENGTH);
+        return map_line(out, at, x, base, size);
     }
+    if roomy(out, at) {
+        return entry(out, at, x) - at;
+    }
+    let mut buffer: [u8; 128] = [0; 128];
+    let n = entry(&mut buffer, 0, x);
+    moved(out, at, &buffer, n)
+}
+
+// The line of a mapping, whose base and length are numbers of their own.
+fn map_line(out: &mut [u8], at: usize, e: u64, base: u64, size: u64) -> usize
+    ensures { λ r. ⌜ r ≡ length (spaceLine (bytes 8 e) base size) ⌝ }
+    ensures { λ _. ⌜ now (out .exit) ≡ sets (now (out .entry)) at (spaceLine (bytes 8 e) base size) ⌝ }
+{
+    if roomy(out, at) {
+        return map(out, at, e, base, size) - at;
+    }
+    let mut buffer: [u8; 128] = [0; 128];
+    let n = map(&mut buffer, 0, e, base, size);
+    moved(out, at, &buffer, n)
+}
+
+// Each of these stores one line and answers the place behind it.
+
+fn map(out: &mut [u8], at: usize, e: u64, base: u64, size: u64) -> usize
+    requires { ⌜ at + 128 ≤ length (now out) ⌝ }
+    ensures { λ r. ⌜ Wrote (now (out .entry)) at (spaceLine (bytes 8 e) base size) (now (out .exit)) r ⌝ }
+    ensures { λ r. ⌜ r ≤ at + 128 ⌝ }
+{
+    let a = word(out, at, b"map ");
+    let b = field(out, a, e, layout::EXTENDED_BUS, SPACE);
+    let c = field(out, b, e, layout::SPACE_KIND, SPACE);
+    let d = hex16(out, c, base, SPACE);
+    hex16(out, d, size, LINE_END)
+}
+
+// An entry of another type.
+fn entry(out: &mut [u8], at: usize, e: u64) -> usize
+    requires { ⌜ (at + 128 ≤ length (now out)) × (byteOf (bytes 8 e) 0 ≡ 128 → ⊥) ⌝ }
+    ensures { λ r. ⌜ Wrote (now (out .entry)) at (extendedLine (bytes 8 e)) (now (out .exit)) r ⌝ }
+    ensures { λ r. ⌜ r ≤ at + 128 ⌝ }
+{
+    let kind = byte(e, 0);
     if kind == layout::HIERARCHY_TYPE {
-        return tree(out, start, e) - start;
+        return tree(out, at, e);
     }
     if kind == layout::MODIFIER_TYPE {
-        return modifier(out, start, e) - start;
+        return modifier(out, at, e);
     }
-    skip(out, start, e) - start
+    skip(out, at, e)
+}
+
+fn tree(out: &mut [u8], at: usize, e: u64) -> usize
+    requires { ⌜ at + 128 ≤ length (now out) ⌝ }
+    ensures { λ r. ⌜ Wrote (now (out .entry)) at (treeLine (bytes 8 e)) (now (out .exit)) r ⌝ }
+    ensures { λ r. ⌜ r ≤ at + 128 ⌝ }
+{
+    let link = byte(e, layout::LINK_BIT);
+    let a = word(out, at, b"tree ");
+    let b = field(out, a, e, layout::EXTENDED_BUS, SPACE);
+    let c = field(out, b, e, layout::PARENT_BUS, SPACE);
+    decimal(out, c, (link % 2) as u32, LINE_END)
+}
+
+fn modifier(out: &mut [u8], at: usize, e: u64) -> usize
+    requires { ⌜ at + 128 ≤ length (now out) ⌝ }
+    ensures { λ r. ⌜ Wrote (now (out .entry)) at (modLine (bytes 8 e)) (now (out .exit)) r ⌝ }
+    ensures { λ r. ⌜ r ≤ at + 128 ⌝ }
+{
+    let link = byte(e, layout::LINK_BIT);
+    let a = word(out, at, b"mod ");
+    let b = field(out, a, e, layout::EXTENDED_BUS, SPACE);
+    let c = decimal(out, b, (link % 2) as u32, SPACE);
+    decimal(out, c, high(e), LINE_END)
+}
+
+fn skip(out: &mut [u8], at: usize, e: u64) -> usize
+    requires { ⌜ at + 128 ≤ length (now out) ⌝ }
+    ensures { λ r. ⌜ Wrote (now (out .entry)) at (skipLine (bytes 8 e)) (now (out .exit)) r ⌝ }
+    ensures { λ r. ⌜ r ≤ at + 128 ⌝ }
+{
+    let a = word(out, at, b"skip ");
+    let b = field(out, a, e, 0, SPACE);
+    field(out, b, e, layout::ENTRY_LENGTH, LINE_END)
 }

@@ -8,24 +8,59 @@ pub mod extended; // the lines of extended entries
 pub mod frame; // the lines that stand around them, or alone
 
 ghost use mathlib.Core.Path.{_≡_};
-ghost use Prim.Native.Nat.{_+_, _≤_, min};
-ghost use lib.ListN.{length, getD};
+ghost use Prim.Native.Nat.{_+_, _≤_, _<_};
+ghost use lib.ListN.{length, getD, take};
+ghost use lib.Seq.{sets};
+ghost use lib.Dec.{leb};
+ghost use Rattle.mps.specs.Numbers.{le, bytes};
 ghost use Rattle.mps.specs.Listing.{decimal as decimalOf, hex, unpadded};
 ghost use Rattle.text.specs.Text.{ended};
-ghost use Rattle.lines.specs.Wrote.{Wrote, most};
+ghost use Rattle.lines.specs.Wrote.{Wrote};
 
-// Where a line may begin: at the place, or at the end where that is past it. Nothing is stored there either, and from
-// there no sum overflows.
-fn inside(out: &[u8], at: usize) -> usize
-    ensures { λ r. ⌜ r ≡ min at (length (now (out .entry))) ⌝ }
+// A line has less than 128 bytes: where so many have room, it is stored there. Elsewhere it is made in a buffer of its own,
+// and what has room is copied.
+
+// Whether any line has room from a place on.
+fn roomy(out: &[u8], at: usize) -> bool
+    ensures { λ r. ⌜ r ≡ leb (at + 128) (length (now (out .entry))) ⌝ }
 {
-    if at < out.len() { at } else { out.len() }
+    if out.len() < 128 {
+        return false;
+    }
+    at <= out.len() - 128
+}
+
+// The first n bytes of a buffer, as far as they have room; answers how many they are.
+fn moved(out: &mut [u8], at: usize, buffer: &[u8], n: usize) -> usize
+    requires { ⌜ n ≤ length (now buffer) ⌝ }
+    ensures { λ r. ⌜ r ≡ n ⌝ }
+    ensures { λ _. ⌜ now (out .exit) ≡ sets (now (out .entry)) at (take n (now (buffer .entry))) ⌝ }
+{
+    slices::copy(out, at, &buffer[..n]);
+    n
+}
+
+// An entry that fits in a register is handed on in one: its bytes are in hand then, whatever is stored meanwhile.
+
+// A byte of an entry.
+fn byte(e: u64, k: usize) -> u8
+    requires { ⌜ k < 8 ⌝ }
+    ensures { λ r. ⌜ r ≡ getD (bytes 8 e) k 0 ⌝ }
+{
+    ((e >> (8 * k)) % 256) as u8
+}
+
+// Its last four bytes, as a number.
+fn high(e: u64) -> u32
+    ensures { λ r. ⌜ r ≡ le 4 (bytes 8 e) 4 ⌝ }
+{
+    (e / 0x100000000) as u32
 }
 
 // Each of these stores one word and answers the place behind it.
 
 fn word(out: &mut [u8], at: usize, w: &[u8]) -> usize
-    requires { ⌜ (at ≤ most) × (length (now w) ≤ 16) ⌝ }
+    requires { ⌜ (at + 16 ≤ length (now out)) × (length (now w) ≤ 16) ⌝ }
     ensures { λ r. ⌜ Wrote (now (out .entry)) at (now (w .entry)) (now (out .exit)) r ⌝ }
     ensures { λ r. ⌜ r ≤ at + 16 ⌝ }
 {
@@ -33,25 +68,25 @@ fn word(out: &mut [u8], at: usize, w: &[u8]) -> usize
 }
 
 fn decimal(out: &mut [u8], at: usize, x: u32, last: u8) -> usize
-    requires { ⌜ at ≤ most ⌝ }
+    requires { ⌜ at + 20 ≤ length (now out) ⌝ }
     ensures { λ r. ⌜ Wrote (now (out .entry)) at (ended (decimalOf x) last) (now (out .exit)) r ⌝ }
-    ensures { λ r. ⌜ r ≤ at + 16 ⌝ }
+    ensures { λ r. ⌜ r ≤ at + 6 ⌝ }
 {
     at + text::decimal(out, at, x, last)
 }
 
 // A byte of an entry, in decimal.
-fn field(out: &mut [u8], at: usize, e: &[u8], k: usize, last: u8) -> usize
-    requires { ⌜ at ≤ most ⌝ }
-    ensures { λ r. ⌜ Wrote (now (out .entry)) at (ended (decimalOf (getD (now (e .entry)) k 0)) last) (now (out .exit)) r ⌝ }
-    ensures { λ r. ⌜ r ≤ at + 16 ⌝ }
+fn field(out: &mut [u8], at: usize, e: u64, k: usize, last: u8) -> usize
+    requires { ⌜ (at + 20 ≤ length (now out)) × (k < 8) ⌝ }
+    ensures { λ r. ⌜ Wrote (now (out .entry)) at (ended (decimalOf (getD (bytes 8 e) k 0)) last) (now (out .exit)) r ⌝ }
+    ensures { λ r. ⌜ r ≤ at + 6 ⌝ }
 {
-    let x = numbers::byte(e, k);
+    let x = byte(e, k);
     decimal(out, at, x as u32, last)
 }
 
 fn hex8(out: &mut [u8], at: usize, x: u32, last: u8) -> usize
-    requires { ⌜ at ≤ most ⌝ }
+    requires { ⌜ at + 20 ≤ length (now out) ⌝ }
     ensures { λ r. ⌜ Wrote (now (out .entry)) at (ended (hex 8 x) last) (now (out .exit)) r ⌝ }
     ensures { λ r. ⌜ r ≤ at + 9 ⌝ }
 {
@@ -59,7 +94,7 @@ fn hex8(out: &mut [u8], at: usize, x: u32, last: u8) -> usize
 }
 
 fn hex16(out: &mut [u8], at: usize, x: u64, last: u8) -> usize
-    requires { ⌜ at ≤ most ⌝ }
+    requires { ⌜ at + 20 ≤ length (now out) ⌝ }
     ensures { λ r. ⌜ Wrote (now (out .entry)) at (ended (hex 16 x) last) (now (out .exit)) r ⌝ }
     ensures { λ r. ⌜ r ≤ at + 17 ⌝ }
 {
@@ -68,7 +103,7 @@ fn hex16(out: &mut [u8], at: usize, x: u64, last: u8) -> usize
 
 // The six bytes of a bus's name.
 fn name(out: &mut [u8], at: usize, s: &[u8], last: u8) -> usize
-    requires { ⌜ (at ≤ most) × (length (now s) ≤ 6) ⌝ }
+    requires { ⌜ (at + 20 ≤ length (now out)) × (length (now s) ≤ 6) ⌝ }
     ensures { λ r. ⌜ Wrote (now (out .entry)) at (ended (unpadded (now (s .entry))) last) (now (out .exit)) r ⌝ }
     ensures { λ r. ⌜ r ≤ at + 16 ⌝ }
 {

@@ -4,17 +4,19 @@ use mathlib.Core.Path.{_≡_, refl, ap, sym, _∙_}
 use mathlib.Core.Bool.{true, false}
 use mathlib.Core.List.{List, [], _∷_, _++_}
 use native.Mathlib.Omega.{arith}
-use lib.ListN.{length}
+use lib.ListN.{length, length-append}
 use lib.Dec.{ltb, leb}
 use lib.Seq.{sets}
 use borrow.Author.Tests.{lt-ltb, le-ltb, ne-eqb}
-use Rattle.mps.specs.Words.{part, cut, joined, among, each, any, first, head}
+use Rattle.mps.specs.Words.{text, part, cut, joined, among, each, any, first, head}
+use Rattle.mps.specs.Sums.{total}
 use Rattle.mps.specs.Refusals.{Rule, _when_, refusal}
 use Rattle.mps.specs.Answers.{writtenNumbers}
 use Rattle.mps.specs.Layout.{headerSize, baseLength, extendedLength, entryCount, baseEntryLength, extendedEntryLength, baseEntries, extendedEntries}
 use Rattle.mps.specs.Layout.{feature1}
 use Rattle.mps.specs.Pointer.{pointerBytes, isDefault, imcrOf}
 use Rattle.mps.specs.Judge.{pointerRules, tableRules, dumpRules, dumpRefusal}
+use Rattle.mps.specs.Listing.{decimal, decimalWidth, hex}
 use Rattle.mps.specs.Listing.{baseLine, extendedLine, pointerLine, tableLine, endLine, defaultLine, refusedLine, tableLines, listing}
 use Rattle.mps.specs.Listing.{listRefusal, listed, listLeft, programOutput, printRefusal, printed, printLeft}
 use Rattle.mps.specs.declared.Written.{Written}
@@ -23,9 +25,10 @@ use Rattle.laws.proofs.Tests.{whether}
 use Rattle.laws.proofs.Refusals.{number, refusal-append, refusal-below}
 use Rattle.dump.proofs.Laws.{Pointed}
 use Rattle.laws.proofs.Stores.{sets-past, sets-at-start}
+use Rattle.text.proofs.Laws.{length-decimal, length-hex, length-line}
 use Rattle.lines.specs.Wrote.{Wrote}
 use Rattle.lines.proofs.Laws.{then}
-use Rattle.listing.specs.Fits.{fitted, fitLeft, tableText}
+use Rattle.listing.specs.Fits.{fitted, fitLeft, tableText, frameLength}
 
 -- ---- A room and an answer
 
@@ -42,13 +45,19 @@ sure w room u e h k =
     let t = le-ltb (length room) (length w) h in
     (rw (t, e), rw (t, k) (sets-at-start room w h))
 
+-- A room that is too short.
+pub short :
+    (w room : List ℕ) {n : ℕ} → n ≡ length w → length room < n
+    → (Refused 19 ≡ fitted w room) × (room ≡ fitLeft w room)
+unfolding fitted fitLeft
+short w room e h =
+    let t = lt-ltb (length room) (length w) (omega arith) in
+    (rw t, rw t)
+
+-- .. as one learns by making the answer in no room.
 module _ (w room v : List ℕ) {n : ℕ} (m : v ≡ sets [] 0 w) (e : n ≡ length w) where
   pub too-long : length (v ++ room) < n → (Refused 19 ≡ fitted w room) × (v ++ room ≡ fitLeft w room)
-  unfolding fitted fitLeft
-  too-long h =
-      let z = rw (nothing v w m) at h in
-      let t = lt-ltb (length room) (length w) (omega arith) in
-      (rw t, rw (t, nothing v w m))
+  too-long h = rw (nothing v w m) (short w room e (rw (nothing v w m) at h))
 
   pub it-fits : (u : List ℕ) → n ≤ length (v ++ room) → u ≡ sets (v ++ room) 0 w → (Bytes n ≡ fitted w room) × (u ≡ fitLeft w room)
   it-fits u h k =
@@ -69,6 +78,54 @@ table-is pointer imcr address t i j k l m n p q =
     let w = rw (i, j, k) at (then l (then m (then n (then p q)))) in
     (omega (arith, w .place), w .text)
 
+-- ---- How long it is
+
+pub frame-is :
+    (pointer imcr address base extended count : ℕ) {a b c d : ℕ} → a ≡ decimalWidth base → b ≡ decimalWidth extended
+    → c ≡ decimalWidth imcr → d ≡ decimalWidth count
+    → 45 + c + (a + b) + d ≡ frameLength pointer imcr address base extended count
+unfolding frameLength pointerLine tableLine endLine text total each
+frame-is pointer imcr address base extended count e f g h =
+    omega (
+      arith,
+      length-line (text "pointer") (hex 8 pointer ∷ text "imcr" ∷ decimal imcr ∷ []),
+      length-line (text "table") (hex 8 address ∷ decimal base ∷ decimal extended ∷ decimal count ∷ []),
+      length-line (text "end") [],
+      length-hex 8 pointer,
+      length-hex 8 address,
+      length-decimal imcr,
+      length-decimal base,
+      length-decimal extended,
+      length-decimal count,
+    )
+
+pub table-width :
+    (pointer imcr address : ℕ) (t : List ℕ) {base extended count f a b : ℕ}
+    → base ≡ baseLength t → extended ≡ extendedLength t → count ≡ entryCount t
+    → f ≡ frameLength pointer imcr address base extended count
+    → a ≡ length (joined baseLine (cut baseEntryLength 0 (part headerSize base t)))
+    → b ≡ length (joined extendedLine (cut extendedEntryLength 0 (part base (base + extended) t)))
+    → f + a + b ≡ length (tableText pointer imcr address t)
+unfolding tableText tableLines baseEntries extendedEntries frameLength
+table-width pointer imcr address t i j k l m n =
+    let p = pointerLine pointer imcr in
+    let h = tableLine address (baseLength t) (extendedLength t) (entryCount t) in
+    let x = joined baseLine (cut baseEntryLength 0 (part headerSize (baseLength t) t)) in
+    let y = joined extendedLine (cut extendedEntryLength 0 (part (baseLength t) (baseLength t + extendedLength t) t)) in
+    let l' = rw (i, j, k) at l in
+    let m' = rw i at m in
+    let n' = rw (i, j) at n in
+    omega (
+      arith,
+      length-append p (h ++ (x ++ (y ++ endLine))),
+      length-append h (x ++ (y ++ endLine)),
+      length-append x (y ++ endLine),
+      length-append y endLine,
+      l',
+      m',
+      n',
+    )
+
 -- ---- The dump's number and the room's
 
 -- No rule of a dump gives 0, and none gives 19 or more.
@@ -80,7 +137,7 @@ dump-below : (d : List ℕ) → dumpRefusal d < 19
 unfolding dumpRefusal
 dump-below d = refusal-below 19 (dumpRules d) (omega arith) (dump-given d .1)
 
-list-number : (d room : List ℕ) → listRefusal d room ≡ first (dumpRefusal d) (refusal (19 when ltb (length room) (length (listing d)) ∷ []))
+pub list-number : (d room : List ℕ) → listRefusal d room ≡ first (dumpRefusal d) (refusal (19 when ltb (length room) (length (listing d)) ∷ []))
 unfolding listRefusal dumpRefusal
 list-number d room = refusal-append (dumpRules d) _ (dump-given d .0)
 

@@ -17,14 +17,14 @@ use Rattle.mps.specs.Table.{wrongBaseLength, extendedFault, extendedFrom, wrong
 use Rattle.mps.specs.Pointer.{pointer, pointerBytes, isDefault, imcrOf, tableAddress, tableIn}
 use Rattle.mps.specs.Judge.{pointerRules, tableRules, dumpRules, dumpRefusal, tableRefusal}
 use Rattle.mps.specs.Listing.{baseLine, mapLine, treeLine, modLine, skipLine, extendedLine, pointerLine, tableLine, endLine, tableLines, listing}
-use Rattle.mps.specs.Listing.{programOutput, printed, printLeft}
+use Rattle.mps.specs.Listing.{listRefusal, programOutput, printed, printLeft}
 use Rattle.mps.specs.declared.Written.{Written}
 use Rattle.mps.specs.declared.Written.the-variants.{Bytes}
 use Rattle.laws.proofs.Tests.{whether, or-parts}
-use Rattle.laws.proofs.Refusals.{so, refusal-none}
+use Rattle.laws.proofs.Refusals.{so, first-none, refusal-none}
 use Rattle.listing.specs.Fits.{fitted, fitLeft, tableText}
 use Rattle.listing.proofs.Most.{base-most, map-most, tree-most, mod-most, skip-most, pointer-most, table-most, end-most, default-most, refused-most}
-use Rattle.listing.proofs.Laws.{dump-given, print-fits}
+use Rattle.listing.proofs.Laws.{dump-given, list-number, print-fits}
 
 -- ---- The lines of the base entries
 
@@ -205,6 +205,10 @@ listing-most d e =
       pointer-most (pointer d .address) (imcrOf d),
       table-lines-most (tableIn d) (tableAddress d) (rows .0) (rows .1),
     )))
+
+-- So the count that the call answers is no more.
+pub list-most : (d room : List ℕ) → listRefusal d room ≡ 0 → length (listing d) ≤ 65536
+list-most d room e = listing-most d (first-none (dumpRefusal d) _ (sym (list-number d room) ∙ e) .0)
 
 pub output-most : (d : List ℕ) → length (programOutput d) ≤ 65536
 unfolding programOutput

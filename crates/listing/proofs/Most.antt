@@ -1,10 +1,9 @@
 -- How long a line can be. Assumes nothing.
-use Prim.Native.Nat.{ℕ, _+_, _≤_}
-use mathlib.Core.Path.{_≡_}
+use Prim.Native.Nat.{ℕ, _≤_}
 use mathlib.Core.Bool.{Bool, true, false, cond}
 use mathlib.Core.List.{List, [], _∷_}
 use native.Mathlib.Omega.{arith}
-use lib.ListN.{length, drop, length-append, length-take}
+use lib.ListN.{length, drop, length-take}
 use lib.Dec.{eqb}
 use Rattle.mps.specs.Words.{text, flag, each}
 use Rattle.mps.specs.Sums.{total}
@@ -12,17 +11,12 @@ use Rattle.mps.specs.Layout.{Entry, ofType, processorType, busType, ioApicType,
 use Rattle.mps.specs.Layout.{idOf, version, enabled, bootstrap, nameOf, addressOf, extendedEntryLength, type}
 use Rattle.mps.specs.Layout.{interruptType, sourceBus, sourceIrq, polarity, trigger, destination, input}
 use Rattle.mps.specs.Layout.{extendedBus, spaceKind, spaceBase, spaceLength, parentBus, subtractiveBit, takesBit, rangeList}
-use Rattle.mps.specs.Listing.{line, decimal, hex, unpadded, onOff, bootAp, interruptName}
+use Rattle.mps.specs.Listing.{decimal, hex, unpadded, onOff, bootAp, interruptName}
 use Rattle.mps.specs.Listing.{cpuLine, busLine, ioApicLine, interruptLine, baseLine, mapLine, treeLine, modLine, skipLine, extendedLine}
 use Rattle.mps.specs.Listing.{pointerLine, tableLine, endLine, defaultLine, refusedLine}
-use Rattle.text.proofs.Laws.{length-decimal-most, length-hex, length-unpadded}
+use Rattle.text.proofs.Laws.{length-decimal-most, length-hex, length-unpadded, length-line}
 
--- ---- A line and its words
-
-length-line : (w : List ℕ) (ws : List (List ℕ)) → length (line w ws) ≡ length w + 1 + total (each (λ (v : List ℕ). length v + 1) ws)
-unfolding line total each
-length-line w [] = omega (arith, length-append w (10 ∷ []))
-length-line w (n ∷ ws) = omega (arith, length-append w (32 ∷ line n ws), length-line n ws)
+-- ---- Words of a choice
 
 choice : (k : ℕ) (b : Bool) (x y : List ℕ) → length x ≤ k → length y ≤ k → length (cond b x y) ≤ k
 choice k true x y h g = h

@@ -2,7 +2,7 @@
 use Prim.Native.Nat.{ℕ, zero, suc, _+_, _*_, _-_, _≤_, _<_, min, max}
 use mathlib.Core.Path.{_≡_, refl, ap, sym, _∙_}
 use mathlib.Core.Bool.{Bool, true, false, cond}
-use mathlib.Core.List.{List, _∷_, _++_}
+use mathlib.Core.List.{List, [], _∷_, _++_}
 use native.Mathlib.Omega.{arith}
 use native.Mathlib.Nat.{add-zero}
 use lib.ListN.{length, getD, take, drop, length-append}
@@ -11,7 +11,7 @@ use lib.Dec.{eqb}
 use borrow.Author.Tests.{eq-eqb, ne-eqb}
 use Rattle.mps.specs.Words.{cut, joined, part}
 use Rattle.mps.specs.Layout.{processorType, processorSize, entrySize, baseEntryLength, extendedEntryLength}
-use Rattle.laws.proofs.Stores.{sets-append}
+use Rattle.laws.proofs.Stores.{sets-append, sets-past}
 use Rattle.laws.proofs.Parts.{part-inside, drop-inside}
 use Rattle.laws.proofs.Cut.{cut-next, cut-done}
 use Rattle.lines.specs.Wrote.{Wrote}
@@ -83,6 +83,21 @@ module _ (len : List ℕ → ℕ) (f : List ℕ → List ℕ) where
       let w = g .within in
       let q = g .low in
       (record { place = z; text = e }, omega arith)
+
+  -- A walk that only measures is one in no room: each turn adds a length.
+  pub measured-next :
+      {s : List ℕ} {sum i : ℕ} (n end next : ℕ) → Going [] 0 s [] sum i → i < length s
+      → end ≡ min (i + len (drop i s)) (length s) → next ≡ max (i + 1) end → n ≡ length (f (part i end s)) → n ≤ 64
+      → Going [] 0 s [] (sum + n) next
+  measured-next {s} {sum} {i} n end next g h e m l k =
+      going-next n end next g h e m l k (sym (sets-past [] sum (f (part i end s)) (omega arith)))
+
+  pub measured-done :
+      {s : List ℕ} {sum i : ℕ} → Going [] 0 s [] sum i → length s ≤ i
+      → (sum ≡ length (joined f (cut len 0 s))) × (sum ≤ 64 * length s)
+  measured-done g h =
+      let d = going-done g h in
+      (omega (arith, d .0 .place), omega (arith, d .1))
 
 -- The length of a base entry, by its type.
 pub size-processor : {k : ℕ} → k ≡ 0 → processorSize ≡ cond (eqb k processorType) processorSize entrySize

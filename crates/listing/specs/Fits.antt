@@ -1,13 +1,13 @@
 -- An answer and a lent room: what the call answers, and what it leaves. Document 01: 19, "answer longer than the lent room";
 -- "Answers and images start at their room's first byte; what lies past them stays."
-use Prim.Native.Nat.{ℕ}
+use Prim.Native.Nat.{ℕ, _+_}
 use mathlib.Core.Bool.{cond}
 use mathlib.Core.List.{List, _++_}
 use lib.ListN.{length}
 use lib.Dec.{ltb}
 use Rattle.mps.specs.Words.{put}
 use Rattle.mps.specs.Refusals.{roomNumber}
-use Rattle.mps.specs.Listing.{pointerLine, tableLines}
+use Rattle.mps.specs.Listing.{pointerLine, tableLine, endLine, tableLines}
 use Rattle.mps.specs.declared.Written.{Written}
 use Rattle.mps.specs.declared.Written.the-variants.{Bytes, Refused}
 
@@ -20,3 +20,8 @@ fitLeft answer room = cond (ltb (length room) (length answer)) room (put answer 
 -- The listing of a dump that holds a table: where its pointer stands, the pointer's bit, the table's address, the table.
 unfoldable pub tableText : ℕ → ℕ → ℕ → List ℕ → List ℕ
 tableText pointer imcr address t = pointerLine pointer imcr ++ tableLines address t
+
+-- How long the lines around its entries are.
+unfoldable pub frameLength : ℕ → ℕ → ℕ → ℕ → ℕ → ℕ → ℕ
+frameLength pointer imcr address base extended count =
+    length (pointerLine pointer imcr) + length (tableLine address base extended count) + length endLine

@@ -4,8 +4,8 @@
 // `printed` and leaves `printLeft`. The definitions stand in mps's specs/Listing.antt. A refusal leaves the room as it was.
 //
 // Nothing is written before it is known that all of it fits. Where the room holds the longest listing that such a table can
-// have, that is known at once; else the listing is made twice by the same functions: first in no room at all, which only
-// measures it, then in the room.
+// have, that is known at once; else the listing is measured first, by arithmetic. A line that stands alone is made twice
+// by the same function: first in no room at all, which only measures it, then in the room.
 use mps::Held;
 use mps::Written;
 use mps::layout;
@@ -20,7 +20,7 @@ ghost use Rattle.mps.specs.Layout.{processorType, processorSize, entrySize, bas
 ghost use Rattle.mps.specs.Judge.{tableRefusal};
 ghost use Rattle.mps.specs.Listing.{listed, listLeft, printed, printLeft, baseLine, extendedLine, defaultLine, refusedLine};
 ghost use Rattle.lines.specs.Wrote.{Wrote};
-ghost use Rattle.listing.specs.Fits.{fitted, fitLeft, tableText};
+ghost use Rattle.listing.specs.Fits.{fitted, fitLeft, tableText, frameLength};
 
 // "answer longer than the lent room"
 const TOO_LONG: u8 = 19;
@@ -106,6 +106,64 @@ fn put_table(out: &mut [u8], t: &[u8], pointer: u32, imcr: u8, address: u32) -> 
     d + lines::frame::end(out, d)
 }
 
+// How many bytes the lines of base entries have. As above, the bound on the length keeps sums from overflowing.
+fn base_width(s: &[u8]) -> usize
+    requires { ⌜ length (now s) ≤ 65535 ⌝ }
+    ensures { λ r. ⌜ r ≡ length (joined baseLine (cut baseEntryLength 0 (now (s .entry)))) ⌝ }
+    ensures { λ r. ⌜ r ≤ 64 * length (now (s .entry)) ⌝ }
+{
+    let mut sum = 0;
+    let mut i = 0;
+    while i < s.len() {
+        let end = ending(s, i, base_size(s[i]));
+        sum += widths::base(&s[i..end]);
+        i = end;
+    }
+    sum
+}
+
+// .. and of extended entries.
+fn extended_width(s: &[u8]) -> usize
+    requires { ⌜ length (now s) ≤ 65535 ⌝ }
+    ensures { λ r. ⌜ r ≡ length (joined extendedLine (cut extendedEntryLength 0 (now (s .entry)))) ⌝ }
+    ensures { λ r. ⌜ r ≤ 64 * length (now (s .entry)) ⌝ }
+{
+    let mut sum = 0;
+    let mut i = 0;
+    while i < s.len() {
+        let size = numbers::wide(numbers::byte(s, i + layout::ENTRY_LENGTH)) as usize;
+        let end = ending(s, i, size);
+        sum += widths::extended(&s[i..end]);
+        i = behind(i, end);
+    }
+    sum
+}
+
+// .. and the lines around them: "pointer", "imcr", "table", "end", twice eight digits, and ten bytes behind words. No
+// address makes them longer.
+fn frame_width(imcr: u8, base: u16, extended: u16, count: u16) -> usize
+    ensures { λ r. ⌜ ((pointer address : ℕ) → r ≡ frameLength pointer imcr address base extended count) × (r ≤ 65) ⌝ }
+{
+    let lengths = text::width(base as u32) + text::width(extended as u32);
+    45 + text::width(imcr as u32) + lengths + text::width(count as u32)
+}
+
+// How many bytes the whole listing of an accepted table has.
+fn table_width(t: &[u8], imcr: u8) -> usize
+    requires { ⌜ tableRefusal (now t) ≡ 0 ⌝ }
+    ensures { λ r. ⌜ ((pointer address : ℕ) → r ≡ length (tableText pointer imcr address (now (t .entry)))) ⌝ }
+{
+    let base = numbers::le16(t, layout::BASE_LENGTH);
+    let extended = numbers::le16(t, layout::EXTENDED_LENGTH);
+    let count = numbers::le16(t, layout::ENTRY_COUNT);
+    let base_end = base as usize;
+    let end = base_end + extended as usize;
+    let frame = frame_width(imcr, base, extended, count);
+    let a = base_width(&t[layout::HEADER_SIZE..base_end]);
+    let b = extended_width(&t[base_end..end]);
+    frame + a + b
+}
+
 // Six bytes a byte of the base and nine a byte of the extended part are enough: a base entry has at least eight bytes and a
 // line of at most 48, an extended entry's line has at most nine times its bytes, and the header's 44 bytes pay for the
 // lines around them.
@@ -130,12 +188,13 @@ fn list_table(t: &[u8], pointer: u32, imcr: u8, address: u32, out: &mut [u8]) ->
     list_measured(t, pointer, imcr, address, out)
 }
 
+// Elsewhere it is measured.
 fn list_measured(t: &[u8], pointer: u32, imcr: u8, address: u32, out: &mut [u8]) -> Written
     requires { ⌜ tableRefusal (now t) ≡ 0 ⌝ }
     ensures { λ r. ⌜ r ≡ fitted (tableText pointer imcr address (now (t .entry))) (now (out .entry)) ⌝ }
     ensures { λ _. ⌜ now (out .exit) ≡ fitLeft (tableText pointer imcr address (now (t .entry))) (now (out .entry)) ⌝ }
 {
-    let size = put_table(&mut out[..0], t, pointer, imcr, address);
+    let size = table_width(t, imcr);
     if out.len() < size {
         return Written::Refused(TOO_LONG);
     }

@@ -8,26 +8,23 @@ use native.Mathlib.Omega.{arith}
 use native.Mathlib.Nat.{mod-eq-of-lt}
 use lib.ListN.{length, getD, take, drop, length-append}
 use lib.Seq.{length-take-le, take-take, take-append-le}
-use lib.Dec.{ltb}
-use borrow.Author.Tests.{ltb-false}
 use Rattle.mps.specs.Words.{exactly, part, put}
-use Rattle.mps.specs.Answers.{writtenOf, partedOf}
-use Rattle.mps.specs.Refusals.{baseNumber, extendedNumber, roomNumber}
-use Rattle.mps.specs.Layout.{partMost, headerSize, baseLength, extendedEnd, basePart, extendedPart}
+use Rattle.mps.specs.Answers.{partedOf}
+use Rattle.mps.specs.Layout.{headerSize, baseLength, extendedEnd, basePart, extendedPart}
 use Rattle.mps.specs.Judge.{tableRefusal}
 use Rattle.mps.specs.Writing.{Parts, partsOf, fieldsOf, parted, image, imageSize, baseSize, earlyRefusal, writeRefusal, written, writeLeft}
-use Rattle.mps.specs.declared.Written.{Written}
-use Rattle.mps.specs.declared.Written.the-variants.{Bytes as Written·Bytes, Refused as Written·Refused}
+use Rattle.mps.specs.declared.Written.the-variants.{Bytes as Written·Bytes}
 use Rattle.mps.specs.declared.Parted.{Parted}
 use Rattle.mps.specs.declared.Parted.the-variants.{Parts as Parted·Parts, Refused as Parted·Refused}
 use Rattle.laws.proofs.Lists.{exactly-all}
-use Rattle.laws.proofs.Refusals.{first-none, refusal-pass}
+use Rattle.laws.proofs.Refusals.{first-none}
 use Rattle.laws.proofs.Parts.{length-part, take-part}
 use Rattle.laws.proofs.Small.{Bytes}
 use Rattle.numbers.proofs.Laws.{le-below}
 use Rattle.accepted.proofs.Sound.{Sound, sound}
 use Rattle.accepted.proofs.Agree.{agree-refusal, agree-parts}
 use Rattle.writer.proofs.Calls.{write-none}
+use Rattle.writer.proofs.Most.{Fits, early-fits}
 use Rattle.writer.proofs.Reading.{fields-inside}
 use Rattle.promises.proofs.Headers.{image-reads, image-base, image-extended, base-again, extended-again, header-again, base-sum-again, extended-sum-again}
 
@@ -39,23 +36,9 @@ pub record Proper (p : Parts) : Type 0 where
   pub size : p .fields .size < 2 ^ 16
   pub apic : p .fields .apic < 2 ^ 32
 
--- What is not refused before the image is judged.
-record Fits (p : Parts) (room : List ℕ) : Type 0 where
-  pub base : baseSize p ≤ partMost
-  pub extended : length (p .extended) ≤ partMost
-  pub whole : imageSize p ≤ length room
-
 module _ (p : Parts) (room : List ℕ) where
   fits-early : Fits p room → earlyRefusal p room ≡ 0
   fits-early f = write-none p room (f .base) (f .extended) (f .whole)
-
-  early-fits : earlyRefusal p room ≡ 0 → Fits p room
-  unfolding earlyRefusal
-  early-fits e =
-      let b = refusal-pass baseNumber (ltb partMost (baseSize p)) _ (omega arith) e in
-      let x = refusal-pass extendedNumber (ltb partMost (length (p .extended))) _ (omega arith) (b .1) in
-      let r = refusal-pass roomNumber (ltb (length room) (imageSize p)) _ (omega arith) (x .1) in
-      record { base = ltb-false _ _ (b .0); extended = ltb-false _ _ (x .0); whole = ltb-false _ _ (r .0) }
 
   left-image : earlyRefusal p room ≡ 0 → tableRefusal (image p) ≡ 0 → writeLeft p room ≡ put (image p) room
   unfolding writeLeft
@@ -188,25 +171,3 @@ module _ (p : Parts) (room : List ℕ) (proper : Proper p) (a : writeRefusal p r
   read-fields =
       fields-inside (writeLeft p room) (sound (writeLeft p room) read-accepted .long)
       ∙ ap (λ (q : Parts). q .fields) read-again
-
--- ---- A table that is written has at most 8,192 bytes: its count fits the low half of a code for C
-
-isBytes : Written → Bool
-isBytes (Written·Bytes n) = true
-isBytes (Written·Refused n) = false
-
-bytesOf : Written → ℕ
-bytesOf (Written·Bytes n) = n
-bytesOf (Written·Refused n) = 0
-
-bytes-told : (k size n : ℕ) → writtenOf k size ≡ Written·Bytes n → (k ≡ 0) × (size ≡ n)
-unfolding isBytes bytesOf
-bytes-told zero size n e = (refl, ap bytesOf e)
-bytes-told (suc k) size n e = absurd (true≢false (sym (ap isBytes e)))
-
-pub written-most : (p : Parts) (room : List ℕ) (n : ℕ) → written p room ≡ Written·Bytes n → n ≤ 8192
-unfolding written writeRefusal
-written-most p room n e =
-    let k = bytes-told (writeRefusal p room) (imageSize p) n e in
-    let f = early-fits p room (first-none (earlyRefusal p room) (tableRefusal (image p)) (k .0) .0) in
-    omega (arith, f .base, f .extended, k .1)

@@ -51,6 +51,8 @@ use Rattle.text.proofs.decimal.Reads as decimal
 use Rattle.text.proofs.hex8.Reads as hex8
 use Rattle.text.proofs.hex16.Reads as hex16
 use Rattle.text.proofs.name.Reads as name
+use Rattle.text.proofs.width.Reads as width
+use Rattle.text.proofs.kept.Reads as kept
 use Rattle.lines.proofs.base.line.Reads as base-line
 use Rattle.lines.proofs.extended.line.Reads as extended-line
 use Rattle.lines.proofs.frame.pointer.Reads as pointer-line
@@ -58,6 +60,8 @@ use Rattle.lines.proofs.frame.table.Reads as table-line
 use Rattle.lines.proofs.frame.end.Reads as end-line
 use Rattle.lines.proofs.frame.default.Reads as default-line
 use Rattle.lines.proofs.frame.refused.Reads as refused-line
+use Rattle.widths.proofs.base.Reads as base-width
+use Rattle.widths.proofs.extended.Reads as extended-width
 use Rattle.listing.proofs.list.Reads as list-dump
 use Rattle.listing.proofs.print.Reads as print
 use Rattle.routes.proofs.io.Reads as io
@@ -67,7 +71,12 @@ use Rattle.writer.proofs.write.Reads as write
 use Rattle.writer.proofs.parts.Reads as parts
 use Rattle.writer.proofs.fields.Reads as fields
 use Rattle.editor.proofs.edit.Reads as edit
+use Rattle.reader.proofs.entry.Reads as entry
 use Rattle.exports.proofs.ruxtajma_judge.Reads as ruxtajma-judge
+use Rattle.exports.proofs.ruxtajma_parts.Reads as ruxtajma-parts
+use Rattle.exports.proofs.ruxtajma_entry.Reads as ruxtajma-entry
+use Rattle.exports.proofs.ruxtajma_read.Reads as ruxtajma-read
+use Rattle.exports.proofs.ruxtajma_addresses.Reads as ruxtajma-addresses
 use Rattle.exports.proofs.ruxtajma_list.Reads as ruxtajma-list
 use Rattle.exports.proofs.ruxtajma_io_routes.Reads as ruxtajma-io-routes
 use Rattle.exports.proofs.ruxtajma_local_routes.Reads as ruxtajma-local-routes
@@ -271,6 +280,12 @@ hex16-determined κ a x y s t p q = (p .0 ∙ sym (q .0), p .1 ∙ sym (q .1))
 pub name-determined : Determines name.Post (λ κ s. now (s .0))
 name-determined κ a x y s t p q = (p .0 ∙ sym (q .0), p .1 ∙ sym (q .1))
 
+pub width-determined : Answers width.Post
+width-determined κ a x y s t p q = p .0 ∙ sym (q .0)
+
+pub kept-determined : Answers kept.Post
+kept-determined κ a x y s t p q = p ∙ sym q
+
 -- ---- lines
 
 pub base-line-determined : Determines base-line.Post (λ κ s. now (s .0))
@@ -293,6 +308,14 @@ default-line-determined κ a x y s t p q = (p .0 ∙ sym (q .0), p .1 ∙ sym (q
 
 pub refused-line-determined : Determines refused-line.Post (λ κ s. now (s .0))
 refused-line-determined κ a x y s t p q = (p .0 ∙ sym (q .0), p .1 ∙ sym (q .1))
+
+-- ---- widths
+
+pub base-width-determined : Answers base-width.Post
+base-width-determined κ a x y s t p q = p ∙ sym q
+
+pub extended-width-determined : Answers extended-width.Post
+extended-width-determined κ a x y s t p q = p ∙ sym q
 
 -- ---- listing
 
@@ -331,10 +354,27 @@ fields-determined κ a x y s t p q = p ∙ sym q
 pub edit-determined : Determines edit.Post (λ κ s. now (s .0))
 edit-determined κ a x y s t p q = (p .0 ∙ sym (q .0), p .1 ∙ sym (q .1))
 
+-- ---- reader
+
+pub entry-determined : Answers entry.Post
+entry-determined κ a x y s t p q = p ∙ sym q
+
 -- ---- exports
 
 pub ruxtajma-judge-determined : Answers ruxtajma-judge.Post
 ruxtajma-judge-determined κ a x y s t p q = p ∙ sym q
+
+pub ruxtajma-parts-determined : Answers ruxtajma-parts.Post
+ruxtajma-parts-determined κ a x y s t p q = p ∙ sym q
+
+pub ruxtajma-entry-determined : Answers ruxtajma-entry.Post
+ruxtajma-entry-determined κ a x y s t p q = p ∙ sym q
+
+pub ruxtajma-read-determined : Answers ruxtajma-read.Post
+ruxtajma-read-determined κ a x y s t p q = p ∙ sym q
+
+pub ruxtajma-addresses-determined : Answers ruxtajma-addresses.Post
+ruxtajma-addresses-determined κ a x y s t p q = p ∙ sym q
 
 pub ruxtajma-list-determined : Determines ruxtajma-list.Post (λ κ s. now (s .1 .0))
 ruxtajma-list-determined κ a x y s t p q = (p .0 ∙ sym (q .0), p .1 ∙ sym (q .1))

@@ -13,4 +13,5 @@ pub mod Edits
 pub mod Fresh
 pub mod Runs
 pub mod Back
+pub mod Reader
 pub mod Determined

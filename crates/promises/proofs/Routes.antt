@@ -1,18 +1,16 @@
 -- Demand 2: "The listing, the routes and the addresses seen by a bus are those the table declares", of the routes: a pair is
 -- in the answer exactly when two entries of the table declare it, and the pairs stand in the order of the table. The numbers
 -- of a route query, "given exactly when". Assumes nothing.
-use Prim.Native.Nat.{ℕ, zero, suc, _+_, _-_, _*_, _/_, _^_, _<_, _≤_}
+use Prim.Native.Nat.{ℕ, zero, suc, _+_, _-_, _*_, _/_, _<_, _≤_}
 use mathlib.Core.Path.{_≡_, refl, sym, ap, _∙_}
-use mathlib.Core.Bool.{Bool, true, false, not, _&&_, true≢false, false≢true}
+use mathlib.Core.Bool.{Bool, true, false, _&&_, true≢false, false≢true}
 use mathlib.Core.Logic.{_↔_}
 use mathlib.Core.List.{List, [], _∷_, _++_}
-use native.Mathlib.Nat.{mul-le-mul}
 use native.Mathlib.Omega.{arith}
 use lib.ListN.{length, getD, take, drop, length-append, List·getD-append}
 use lib.Dec.{ltb, eqb}
 use borrow.Author.Tests.{ne-eqb, ltb-true, ltb-false}
 use Rattle.mps.specs.Words.{byte, among, any, keep, each, only, joined, head}
-use Rattle.mps.specs.Refusals.{_when_, refusal}
 use Rattle.mps.specs.Layout.{Entry, ofType, enabled, idOf, input, baseEntries}
 use Rattle.mps.specs.Rules.{Side, enabledOf}
 use Rattle.mps.specs.Judge.{tableRules, tableRefusal}
@@ -22,10 +20,8 @@ use Rattle.mps.specs.declared.Routed.{Routed}
 use Rattle.mps.specs.declared.Routed.the-variants.{Pairs, Refused}
 use Rattle.laws.proofs.Tests.{whether}
 use Rattle.laws.proofs.Lists.{keep-keep, byte-right}
-use Rattle.laws.proofs.Joined.{joined-same, joined-keep, joined-each, joined-only, joined-most}
-use Rattle.laws.proofs.Small.{Bytes}
-use Rattle.laws.proofs.Refusals.{so, refusal-none, given-before, first-none, refusal-append, given-exactly}
-use Rattle.accepted.proofs.Sound.{entries-most}
+use Rattle.laws.proofs.Joined.{joined-same, joined-keep, joined-each, joined-only}
+use Rattle.laws.proofs.Refusals.{so, refusal-none, given-before, given-exactly}
 use Rattle.promises.specs.Declared.{target, declares, declared, Route, Stands}
 use Rattle.promises.proofs.Given.{Exactly}
 
@@ -245,32 +241,6 @@ module _ (side : Side) (t : List ℕ) (itype bus irq : ℕ) (room : List ℕ) {n
               second = rw routes-in-order (List·getD-append all rest 0 (k .place * 2 + 1) (omega arith) ∙ k .second);
             },
       )
-
--- ---- As one number for C
-
-one-most : (b : Bool) (e : Entry) (id : ℕ) → length (only b (pair e id)) ≤ 2
-unfolding pair
-one-most true e id = omega arith
-one-most false e id = omega arith
-
-declared-most : (side : Side) (itype bus irq : ℕ) (es : List Entry) → length (declared side itype bus irq es) ≤ length es * (length es * 2)
-unfolding declared one
-declared-most side itype bus irq es =
-    let line : Entry → List ℕ = λ (e : Entry). joined (one side itype bus irq e) es in
-    joined-most line (length es * 2)
-    (λ e. joined-most (one side itype bus irq e) 2 (λ x. one-most (declares side itype bus irq e x) e (idOf x)) es) es
-
--- The count of an answer fits half of eight bytes: an accepted table counts its entries in two.
-pub routes-most : (side : Side) (t : List ℕ) (itype bus irq : ℕ) (room : List ℕ) (n : ℕ) → Bytes t
-    → routed side t itype bus irq room ≡ Pairs n → n < 2 ^ 32
-unfolding routed routeRefusal routeRules tableRefusal tableRules among each
-routes-most side t itype bus irq room n b r =
-    let es = baseEntries t in
-    let k = pairs-told (routeRefusal side t itype bus irq room) (length (routesOf side t itype bus irq) / 2) n r .0 in
-    let a = first-none (refusal (tableRules t)) _ (sym (refusal-append (tableRules t) (drop 14 (routeRules side t itype bus irq room)) refl) ∙ k) .0 in
-    let c : length es ≤ 65535 = omega (arith, entries-most t b a) in
-    let d : length es * 2 ≤ 131070 = omega arith in
-    omega (arith, routes-count side t itype bus irq room r, declared-most side itype bus irq es, mul-le-mul c d)
 
 -- ---- The numbers
 

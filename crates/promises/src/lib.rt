@@ -7,5 +7,6 @@
 // exactly when, and demand 2: the routes are those that the table declares (Routes), the parent's answer and the links
 // climbed (Addresses), by a falling number that never runs out (Climb); demand 2's round trip of writing and reading
 // (Headers, Again); of edits, 20 to 23 given exactly when, and demand 3: refused as changed exactly when (Edits), the same
-// as written afresh and no other byte (Fresh), over any run (Runs), changed and changed back (Back); that every public
-// contract determines its answer (Determined).
+// as written afresh and no other byte (Fresh), over any run (Runs), changed and changed back (Back); of the reader, where it
+// stays, and that it hands out all entries of an accepted table in order (Reader); that every public contract determines its
+// answer (Determined).

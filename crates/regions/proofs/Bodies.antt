@@ -49,6 +49,22 @@ pub regions-before : (d : List ℕ) (end : ℕ) → lastEnd d ≤ end → every 
 unfolding regions
 regions-before d end h = rows-before (regionCount d) (contentsEnd d) (drop 1 d) end h
 
+-- ---- The contents stand before every body
+
+-- A body that does not begin the dump.
+abbrev pub behind : Region → Bool
+behind r = leb 1 (r .offset)
+
+rows-behind : (n offset : ℕ) (s : List ℕ) → 1 ≤ offset → every behind (regionsFrom n offset s) ≡ true
+unfolding regionsFrom every
+rows-behind zero offset s h = refl
+rows-behind (suc n) offset s h =
+    rw (le-leb 1 offset h) (rows-behind n (offset + rowSize s) (drop rowLength s) (omega arith))
+
+pub regions-behind : (d : List ℕ) → every behind (regions d) ≡ true
+unfolding regions
+regions-behind d = rows-behind (regionCount d) (contentsEnd d) (drop 1 d) (omega arith)
+
 -- ---- The loop that reads the rows
 
 -- The rows from the one at `at` on, whose body is at `end`, where i of them have been read.

@@ -1,5 +1,5 @@
 -- What callers may use of the regions of a dump. Assumes nothing.
-use Prim.Native.Nat.{ℕ, _+_, _≤_, _<_}
+use Prim.Native.Nat.{ℕ, zero, suc, _+_, _≤_, _<_}
 use mathlib.Core.Path.{_≡_, refl, sym}
 use mathlib.Core.Bool.{true, not}
 use mathlib.Core.List.{List, [], _∷_}
@@ -18,7 +18,7 @@ use Rattle.regions.proofs.Coded.{holding-blank}
 use Rattle.regions.proofs.Firsts.{first-all}
 use Rattle.regions.proofs.Eight.{first-eight}
 use Rattle.regions.proofs.Once.{kind-alone}
-use Rattle.regions.proofs.Bodies.{regions-length, before, regions-before}
+use Rattle.regions.proofs.Bodies.{regions-length, before, regions-before, behind, regions-behind}
 use Rattle.regions.proofs.Rules.{sound-parts}
 
 -- ---- What is read of a dump
@@ -88,3 +88,18 @@ holding-inside d a e =
     let over = ltb-true a (endOf r) (h .1) in
     (leb-true (r .offset + r .size) (length d) b, leb-true (r .base) a (h .0), omega arith))
     (regions d) (bodies d e)
+
+-- A body is shorter than its dump: the contents stand before it.
+shorter : (offset size n : ℕ) → (offset ≡ 0 → size ≡ 0) → offset + size ≤ n → 1 ≤ n → size < n
+shorter zero size n f h k = omega (arith, f refl)
+shorter (suc offset) size n f h k = omega arith
+
+pub holding-shorter : (d : List ℕ) (a : ℕ) → soundDump d ≡ true → holding a (regions d) .size < length d
+unfolding holding
+holding-shorter d a e =
+    let r = holding a (regions d) in
+    let some =
+    first-all (holds a) (noRegion a) behind (λ (q : Region). q .offset ≡ 0 → q .size ≡ 0) (λ z. refl)
+    (λ q t b z. absurd (omega (arith, leb-true 1 (q .offset) b, z)))
+    (regions d) (regions-behind d) in
+    shorter (r .offset) (r .size) (length d) some (holding-inside d a e .0) (sound-parts d e .some)

@@ -2,3 +2,4 @@ pub mod Counting
 pub mod Writing
 pub mod Laws
 pub mod Answering
+pub mod Most

@@ -27,9 +27,11 @@ const NAMES: [[u8; 6]; 18] = [
 pub fn is_bus_name(name: &[u8]) -> bool
     ensures { λ r. ⌜ r ≡ isBusName (now (name .entry)) ⌝ }
 {
+    // Once: a constant that is indexed is laid out anew each time.
+    let names = NAMES;
     let mut k = 0;
     while k < 18 {
-        let row = NAMES[k];
+        let row = names[k];
         if slices::same(name, &row) {
             return true;
         }

@@ -10,13 +10,14 @@ use lib.ListN.{length, getD, set, drop, drop-of-length-le, length-append}
 use lib.Seq.{drop-cons, sets, length-sets, set-comm, set-set, set-out}
 use lib.Dec.{ltb, leb}
 use borrow.Author.Tests.{ltb-true, ltb-false, leb-true, lt-ltb, le-ltb, le-leb, lt-leb, eq-eqb, ne-eqb}
-use Rattle.mps.specs.Words.{keep, flag}
-use Rattle.mps.specs.Listing.{digits, decimalDigit, hexDigit, decimalWidth, decimal, hex, notSpace, unpadded}
+use Rattle.mps.specs.Words.{keep, flag, each}
+use Rattle.mps.specs.Sums.{total}
+use Rattle.mps.specs.Listing.{digits, decimalDigit, hexDigit, decimalWidth, decimal, hex, notSpace, unpadded, line}
 use Rattle.laws.proofs.Tests.{whether, same-test}
 use Rattle.laws.proofs.Lists.{keep-in, keep-out}
 use Rattle.laws.proofs.Stores.{sets-append, sets-past}
 use Rattle.slices.proofs.Laws.{sets-next}
-use Rattle.text.specs.Text.{ended}
+use Rattle.text.specs.Text.{ended, stored}
 
 -- ---- How long a word is
 
@@ -62,6 +63,44 @@ length-unpadded (x ∷ s) =
     (λ e. rw (e, keep) (omega (arith, length-unpadded s)))
     (λ e. rw (e, keep) (omega (arith, length-unpadded s)))
 
+-- A line has its words and a byte behind each.
+pub length-line :
+    (w : List ℕ) (ws : List (List ℕ))
+    → length (line w ws) ≡ length w + 1 + total (each (λ (v : List ℕ). length v + 1) ws)
+unfolding line total each
+length-line w [] = omega (arith, length-append w (10 ∷ []))
+length-line w (n ∷ ws) = omega (arith, length-append w (32 ∷ line n ws), length-line n ws)
+
+-- ---- A word is stored where it has room
+
+module _ (n : ℕ) (t : List ℕ) (at : ℕ) where
+  -- What the test tells.
+  pub has-fits : {r : Bool} → r ≡ leb (at + n) (length t) → r ≡ true → at + n ≤ length t
+  has-fits e h = leb-true (at + n) (length t) (sym e ∙ h)
+
+  module _ (w : List ℕ) where
+    pub stored-fits : at + n ≤ length t → stored n t at w ≡ sets t at w
+    unfolding stored
+    stored-fits h = rw (le-leb (at + n) (length t) h)
+
+    -- The two ways out: what was stored, or nothing was.
+    pub stored-in : {r : Bool} {u : List ℕ} → r ≡ leb (at + n) (length t) → r ≡ true → u ≡ sets t at w → u ≡ stored n t at w
+    stored-in e h p = p ∙ sym (stored-fits (has-fits e h))
+
+    pub stored-out : {r : Bool} → r ≡ leb (at + n) (length t) → r ≡ false → t ≡ stored n t at w
+    unfolding stored
+    stored-out e h = rw (← e, h)
+
+-- Whether it has, from the room's length less n.
+pub has-room : (at n l : ℕ) → n ≤ l → leb at (l - n) ≡ leb (at + n) l
+has-room at n l h =
+    same-test (leb at (l - n)) (leb (at + n) l)
+    (λ e. let k = leb-true at (l - n) e in le-leb (at + n) l (omega arith))
+    (λ e. let k = leb-true (at + n) l e in le-leb at (l - n) (omega arith))
+
+pub has-none : (at n l : ℕ) → l < n → false ≡ leb (at + n) l
+has-none at n l h = sym (lt-leb (at + n) l (omega arith))
+
 -- ---- Digits, stored from the last to the first
 
 -- A store behind a word goes before it as well.
@@ -92,21 +131,6 @@ module _ (b : ℕ) (f : ℕ → ℕ) where
   digits-done zero n at t h = refl
   digits-done (suc m) n at t h = absurd (omega arith)
 
-  -- Of r + j digits the last j stand past the end.
-  digits-within : (r j n at : ℕ) (t : List ℕ) → length t ≤ at + r
-      → sets t at (digits b f r (n / b ^ j)) ≡ sets t at (digits b f (r + j) n)
-  digits-within r zero n at t h = rw (add-zero, pow-zero, div-one)
-  digits-within r (suc j) n at t h =
-      let out = set-out t (at + (r + j)) (f (n % b)) (omega arith) in
-      rw (pow-succ', ← div-div-eq-div-mul n b (b ^ j), add-suc)
-      (digits-within r j (n / b) at t h ∙ rw out at (sym (digits-suc (r + j) n at t)))
-
-  pub digits-cut : (r k n at : ℕ) (t : List ℕ) → r ≤ k → length t ≤ at + r
-      → sets t at (digits b f r (n / b ^ (k - r))) ≡ sets t at (digits b f k n)
-  digits-cut r k n at t g h =
-      let e : r + (k - r) ≡ k = omega arith in
-      rw e at (digits-within r (k - r) n at t h)
-
 -- One decimal digit.
 pub decimal-next : (m n at : ℕ) (t : List ℕ) → 0 < m
     → sets t at (digits 10 decimalDigit m n)
@@ -114,17 +138,7 @@ pub decimal-next : (m n at : ℕ) (t : List ℕ) → 0 < m
 unfolding decimalDigit
 decimal-next m n at t h = digits-next 10 decimalDigit m n at t h
 
--- One more of the last i digits is left off, or none is left to.
-module _ (b i n : ℕ) where
-  pub left-off-next : 0 < i → n / b / b ^ (i - 1) ≡ n / b ^ i
-  left-off-next h =
-      let e : i ≡ suc (i - 1) = omega arith in
-      div-div-eq-div-mul n b (b ^ (i - 1)) ∙ rw (← pow-succ', ← e)
-
-  pub left-off-done : i ≤ 0 → n / b ^ i ≡ n
-  left-off-done h = let e : i ≡ 0 = omega arith in rw (e, pow-zero, div-one)
-
--- ---- Numbers and the byte behind them, in a room where they have no place, a place for r digits, or one for all
+-- ---- Numbers and the byte behind them
 
 pub decimal-is : (k n : ℕ) → k ≡ decimalWidth n → digits 10 decimalDigit k n ≡ decimal n
 unfolding decimal
@@ -135,11 +149,8 @@ unfolding hex
 hex-is k n = refl
 
 module _ (b : ℕ) (f : ℕ → ℕ) (k n : ℕ) (w : List ℕ) (e : digits b f k n ≡ w) (t : List ℕ) (at last : ℕ) where
-  number-length : k + 1 ≡ length (ended w last)
+  pub number-length : k + 1 ≡ length (ended w last)
   number-length = ended-length w k last (sym (length-digits b f k n) ∙ ap length e)
-
-  pub number-past : length t ≤ at → (k + 1 ≡ length (ended w last)) × (t ≡ sets t at (ended w last))
-  number-past h = (number-length, sym (sets-past t at (ended w last) h))
 
   number-stored : set (sets t at w) (at + k) last ≡ sets t at (ended w last)
   unfolding ended
@@ -150,14 +161,6 @@ module _ (b : ℕ) (f : ℕ → ℕ) (k n : ℕ) (w : List ℕ) (e : digits b f 
   pub number-fits : (u : List ℕ) → u ≡ sets t at (digits b f k n)
       → (k + 1 ≡ length (ended w last)) × (set u (at + k) last ≡ sets t at (ended w last))
   number-fits u p = (number-length, rw (p, e) number-stored)
-
-  pub number-cut : (u : List ℕ) (r y : ℕ)
-      → r ≤ k → length t ≤ at + r → y ≡ n / b ^ (k - r) → u ≡ sets t at (digits b f r y)
-      → (k + 1 ≡ length (ended w last)) × (u ≡ sets t at (ended w last))
-  number-cut u r y g h q p =
-      let all : u ≡ sets t at w = rw (p, q, ← e) (digits-cut b f r k n at t g h) in
-      let out = set-out (sets t at w) (at + k) last (omega (arith, length-sets t at w)) in
-      (number-length, all ∙ sym out ∙ number-stored)
 
 -- ---- Names, from place i on: nothing is left, a byte of the name stands there, or padding
 
@@ -232,15 +235,6 @@ digit-is d h =
     (λ e. rw e (omega (arith, ltb-false d 10 e)))
 
 -- ---- Numbers of up to three digits, written out
-
-pub four-left : (at n : ℕ) → at < n → leb 4 (n - at) ≡ leb (at + 4) n
-four-left at n h =
-    same-test (leb 4 (n - at)) (leb (at + 4) n)
-    (λ e. let k = leb-true 4 (n - at) e in le-leb (at + 4) n (omega arith))
-    (λ e. let k = leb-true (at + 4) n e in le-leb 4 (n - at) (omega arith))
-
-pub four-past : (at n : ℕ) → n ≤ at → false ≡ leb (at + 4) n
-four-past at n h = sym (lt-leb (at + 4) n (omega arith))
 
 module _ (n last : ℕ) where
   one-digit : n < 10 → ended (decimal n) last ≡ (48 + n) ∷ last ∷ []

@@ -1,21 +1,18 @@
 // Text into a lent room: words, decimal and hexadecimal numbers, and names without their padding.
 //
-// Each function stores one word of a line and the byte behind it, from a place on, and answers how many bytes that word
-// takes. Bytes that would come to stand past the room's end are not stored, but they count: so in a room of no bytes each
-// function only measures, and one function serves both passes of the listing. The words are those of mps's
-// specs/Listing.antt (`decimal`, `hex`, `unpadded`), `ended` stands in specs/Text.antt. No public function has a
-// `requires`. The laws that callers cite stand in proofs/Laws.antt.
-//
-// Words and numbers that fit are stored without a test between two bytes, for nearly all do; those that do not have a way
-// of their own.
+// Each function is given one word of a line and the byte behind it, stores them from a place on, and answers how many bytes
+// they take. A name is stored as far as the room goes. Any other word is stored where so many bytes have room from the place
+// on, and else not at all (`stored`): that is one test a word, and who knows that there is room knows what stands there. The
+// words are those of mps's specs/Listing.antt (`decimal`, `hex`, `unpadded`), `ended` and `stored` stand in specs/Text.antt.
+// No public function has a `requires`. The laws that callers cite stand in proofs/Laws.antt.
 ghost use mathlib.Core.Path.{_≡_};
-ghost use Prim.Native.Nat.{_+_, _/_, _^_, _≤_, _<_};
+ghost use Prim.Native.Nat.{_+_, _≤_, _<_};
 ghost use lib.ListN.{length};
 ghost use lib.Seq.{sets};
 ghost use lib.Dec.{leb};
 ghost use Rattle.mps.specs.Words.{flag};
 ghost use Rattle.mps.specs.Listing.{digits, decimalDigit, hexDigit, decimalWidth, decimal as decimalOf, hex, unpadded};
-ghost use Rattle.text.specs.Text.{ended};
+ghost use Rattle.text.specs.Text.{ended, stored, enough};
 
 // The bytes behind a word: between two words, and at the end of a line.
 
@@ -26,23 +23,39 @@ pub const LINE_END: u8 = 10;
 // The digit 0.
 const ZERO: u8 = 48;
 
+// The room that a number asks for: it has at most 16 digits, and a byte behind them.
+const ENOUGH: usize = 20;
+
+// Whether n bytes have room from a place on.
+fn has(out: &[u8], at: usize, n: usize) -> bool
+    ensures { λ r. ⌜ r ≡ leb (at + n) (length (now (out .entry))) ⌝ }
+{
+    if out.len() < n {
+        return false;
+    }
+    at <= out.len() - n
+}
+
+fn put_word(out: &mut [u8], at: usize, w: &[u8])
+    requires { ⌜ at + length (now w) ≤ length (now out) ⌝ }
+    ensures { λ _. ⌜ now (out .exit) ≡ sets (now (out .entry)) at (now (w .entry)) ⌝ }
+{
+    let mut i = 0;
+    while i < w.len() {
+        out[at + i] = w[i];
+        i += 1;
+    }
+}
+
 // The bytes of `w` as they are.
 pub fn word(out: &mut [u8], at: usize, w: &[u8]) -> usize
     ensures { λ r. ⌜ r ≡ length (now (w .entry)) ⌝ }
-    ensures { λ _. ⌜ now (out .exit) ≡ sets (now (out .entry)) at (now (w .entry)) ⌝ }
+    ensures { λ _. ⌜ now (out .exit) ≡ stored (length (now (w .entry))) (now (out .entry)) at (now (w .entry)) ⌝ }
 {
     let n = w.len();
-    if out.len() <= at {
+    if has(out, at, n) {
+        put_word(out, at, w);
         return n;
-    }
-    if out.len() - at < n {
-        slices::copy(out, at, w);
-        return n;
-    }
-    let mut i = 0;
-    while i < n {
-        out[at + i] = w[i];
-        i += 1;
     }
     n
 }
@@ -54,26 +67,11 @@ fn reached(x: u32, bound: u32) -> usize
     if x < bound { 0 } else { 1 }
 }
 
-// A sum over the bounds has no branch to guess.
-fn width(x: u32) -> usize
+// How many digits a number has. A sum over the bounds has no branch to guess.
+pub fn width(x: u32) -> usize
     ensures { λ r. ⌜ (r ≡ decimalWidth x) × (r ≤ 5) ⌝ }
 {
     1 + reached(x, 10) + reached(x, 100) + reached(x, 1000) + reached(x, 10000)
-}
-
-// x without its last n digits to a base: the digits of a number that come to stand before the room's end are those of
-// this one.
-fn without_last(x: u64, base: u64, n: usize) -> u64
-    requires { ⌜ 0 < base ⌝ }
-    ensures { λ r. ⌜ r ≡ x / base ^ n ⌝ }
-{
-    let mut v = x;
-    let mut i = n;
-    while 0 < i {
-        v = v / base;
-        i -= 1;
-    }
-    v
 }
 
 // The last digit is known first, so the stores go down.
@@ -90,19 +88,9 @@ fn put_decimal(out: &mut [u8], at: usize, x: u64, k: usize)
     }
 }
 
-// Whether four bytes have room from a place on.
-fn has_four(out: &[u8], at: usize) -> bool
-    ensures { λ r. ⌜ r ≡ leb (at + 4) (length (now (out .entry))) ⌝ }
-{
-    if at < out.len() {
-        return 4 <= out.len() - at;
-    }
-    false
-}
-
-// Up to three digits where they have room: most numbers of a listing are bytes, and these need no loop.
+// Up to three digits: most numbers of a listing are bytes, and these need no loop.
 fn short_decimal(out: &mut [u8], at: usize, x: u32, last: u8) -> usize
-    requires { ⌜ (at + 4 ≤ length (now out)) × (x < 1000) ⌝ }
+    requires { ⌜ (at + enough ≤ length (now out)) × (x < 1000) ⌝ }
     ensures { λ r. ⌜ r ≡ length (ended (decimalOf x) last) ⌝ }
     ensures { λ _. ⌜ now (out .exit) ≡ sets (now (out .entry)) at (ended (decimalOf x) last) ⌝ }
 {
@@ -124,33 +112,29 @@ fn short_decimal(out: &mut [u8], at: usize, x: u32, last: u8) -> usize
     4
 }
 
-// "Numbers are decimal".
-pub fn decimal(out: &mut [u8], at: usize, x: u32, last: u8) -> usize
-    ensures { λ r. ⌜ r ≡ length (ended (decimalOf x) last) ⌝ }
-    ensures { λ _. ⌜ now (out .exit) ≡ sets (now (out .entry)) at (ended (decimalOf x) last) ⌝ }
-{
-    if has_four(out, at) & (x < 1000) {
-        return short_decimal(out, at, x, last);
-    }
-    any_decimal(out, at, x, last)
-}
-
-fn any_decimal(out: &mut [u8], at: usize, x: u32, last: u8) -> usize
+fn long_decimal(out: &mut [u8], at: usize, x: u32, last: u8) -> usize
+    requires { ⌜ at + enough ≤ length (now out) ⌝ }
     ensures { λ r. ⌜ r ≡ length (ended (decimalOf x) last) ⌝ }
     ensures { λ _. ⌜ now (out .exit) ≡ sets (now (out .entry)) at (ended (decimalOf x) last) ⌝ }
 {
     let k = width(x);
-    if out.len() <= at {
-        return k + 1;
-    }
-    let room = out.len() - at;
-    if room <= k {
-        put_decimal(out, at, without_last(x as u64, 10, k - room), room);
-        return k + 1;
-    }
     put_decimal(out, at, x as u64, k);
     out[at + k] = last;
     k + 1
+}
+
+// "Numbers are decimal".
+pub fn decimal(out: &mut [u8], at: usize, x: u32, last: u8) -> usize
+    ensures { λ r. ⌜ r ≡ length (ended (decimalOf x) last) ⌝ }
+    ensures { λ _. ⌜ now (out .exit) ≡ stored enough (now (out .entry)) at (ended (decimalOf x) last) ⌝ }
+{
+    if has(out, at, ENOUGH) {
+        if x < 1000 {
+            return short_decimal(out, at, x, last);
+        }
+        return long_decimal(out, at, x, last);
+    }
+    width(x) + 1
 }
 
 // From ten on `(d + 6) / 16` is 1, and "A" stands 7 further than what is behind "9". Without a branch LLVM works out many
@@ -179,25 +163,20 @@ fn put_hex(out: &mut [u8], at: usize, x: u64, k: usize)
 fn hexadecimal(out: &mut [u8], at: usize, x: u64, k: usize, last: u8) -> usize
     requires { ⌜ k ≤ 16 ⌝ }
     ensures { λ r. ⌜ r ≡ length (ended (hex k x) last) ⌝ }
-    ensures { λ _. ⌜ now (out .exit) ≡ sets (now (out .entry)) at (ended (hex k x) last) ⌝ }
+    ensures { λ _. ⌜ now (out .exit) ≡ stored enough (now (out .entry)) at (ended (hex k x) last) ⌝ }
 {
-    if out.len() <= at {
+    if has(out, at, ENOUGH) {
+        put_hex(out, at, x, k);
+        out[at + k] = last;
         return k + 1;
     }
-    let room = out.len() - at;
-    if room <= k {
-        put_hex(out, at, without_last(x, 16, k - room), room);
-        return k + 1;
-    }
-    put_hex(out, at, x, k);
-    out[at + k] = last;
     k + 1
 }
 
 // "addresses eight upper-case hex digits"
 pub fn hex8(out: &mut [u8], at: usize, x: u32, last: u8) -> usize
     ensures { λ r. ⌜ r ≡ length (ended (hex 8 x) last) ⌝ }
-    ensures { λ _. ⌜ now (out .exit) ≡ sets (now (out .entry)) at (ended (hex 8 x) last) ⌝ }
+    ensures { λ _. ⌜ now (out .exit) ≡ stored enough (now (out .entry)) at (ended (hex 8 x) last) ⌝ }
 {
     hexadecimal(out, at, x as u64, 8, last)
 }
@@ -205,13 +184,13 @@ pub fn hex8(out: &mut [u8], at: usize, x: u32, last: u8) -> usize
 // "16 hex digits each", a mapping's base and length.
 pub fn hex16(out: &mut [u8], at: usize, x: u64, last: u8) -> usize
     ensures { λ r. ⌜ r ≡ length (ended (hex 16 x) last) ⌝ }
-    ensures { λ _. ⌜ now (out .exit) ≡ sets (now (out .entry)) at (ended (hex 16 x) last) ⌝ }
+    ensures { λ _. ⌜ now (out .exit) ≡ stored enough (now (out .entry)) at (ended (hex 16 x) last) ⌝ }
 {
     hexadecimal(out, at, x, 16, last)
 }
 
-// How many bytes are no padding.
-fn kept(s: &[u8]) -> usize
+// How many bytes of a name are no padding.
+pub fn kept(s: &[u8]) -> usize
     ensures { λ r. ⌜ r ≡ length (unpadded (now (s .entry))) ⌝ }
 {
     let mut n = 0;

@@ -1,7 +1,8 @@
 -- Each answer by the number that stands for it.
-use mathlib.Core.Path.{sym, _∙_}
+use mathlib.Core.Path.{ap, _∙_}
 use borrow.Author.Needs.{needs}
-use Rattle.exports.proofs.Laws.{is-done, is-refused, is-inner}
+use Rattle.exports.specs.Codes.{editedCode}
+use Rattle.exports.proofs.Laws.{is-done, is-edit-refused, is-inner}
 use Rattle.exports.proofs.ruxtajma_edit.Statement.{statement}
 use Rattle.exports.proofs.ruxtajma_edit.Tie as tie
 
@@ -14,20 +15,14 @@ enum-told c = search needs
 enum-known-answer : tie.Need-enum-known-answer
 enum-known-answer c = search needs
 
-cast-result : tie.Need-cast-result
-cast-result c = search needs
+refused-requires : tie.Need-refused-requires
+refused-requires c κs = search needs
 
 enum-known-answer-2 : tie.Need-enum-known-answer-2
 enum-known-answer-2 c = search needs
 
-cast-result-2 : tie.Need-cast-result-2
-cast-result-2 c = search needs
-
-mul-result : tie.Need-mul-result
-mul-result c = search needs
-
-add-result : tie.Need-add-result
-add-result c = search needs
+coded-requires : tie.Need-coded-requires
+coded-requires c κs = search needs
 
 same-length : tie.Need-same-length
 same-length c = search needs
@@ -35,23 +30,25 @@ same-length c = search needs
 returns : tie.Need-returns
 returns c =
     let e = c .before .before .before .before .edit in
-    (is-done (sym (c .enum-told .given .1) ∙ e .ensures .0), e .ensures .1)
+    (is-done (c .enum-told .given .1) ∙ ap editedCode (e .ensures .0), e .ensures .1)
 
 same-length-2 : tie.Need-same-length-2
 same-length-2 c = search needs
 
 returns-2 : tie.Need-returns-2
 returns-2 c =
-    let e = c .before .before .before .before .before .edit in
-    (is-refused _ (sym (c .before .answer .given .1) ∙ e .ensures .0), e .ensures .1)
+    let e = c .before .before .before .before .before .before .edit in (
+      is-edit-refused _ (c .before .before .answer .given .1) (c .refused .ensures) ∙ ap editedCode (e .ensures .0),
+      e .ensures .1,
+    )
 
 same-length-3 : tie.Need-same-length-3
 same-length-3 c = search needs
 
 returns-3 : tie.Need-returns-3
 returns-3 c =
-    let e = c .before .before .before .before .before .edit in
-    (is-inner _ (sym (c .before .answer2 .given .1) ∙ e .ensures .0), e .ensures .1)
+    let e = c .before .before .before .before .before .before .edit in
+    (is-inner _ (c .before .before .answer2 .given .1) (c .coded .ensures) ∙ ap editedCode (e .ensures .0), e .ensures .1)
 
 pub ruxtajma-edit-spec : {M : Type 1} → statement M
 ruxtajma-edit-spec =
@@ -60,11 +57,9 @@ ruxtajma-edit-spec =
     edit-requires
     enum-told
     enum-known-answer
-    cast-result
+    refused-requires
     enum-known-answer-2
-    cast-result-2
-    mul-result
-    add-result
+    coded-requires
     same-length
     returns
     same-length-2

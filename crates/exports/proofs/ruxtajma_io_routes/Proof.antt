@@ -1,15 +1,19 @@
 -- The query's answer, as one number.
 use mathlib.Core.Path.{ap, _∙_}
+use native.Mathlib.Omega.{arith}
 use borrow.Author.Needs.{needs}
 use Rattle.exports.specs.Codes.{routedCode}
+use Rattle.exports.proofs.Laws.{routes-eight}
 use Rattle.exports.proofs.ruxtajma_io_routes.Statement.{statement}
 use Rattle.exports.proofs.ruxtajma_io_routes.Tie as tie
 
 io-requires : tie.Need-io-requires
 io-requires c κs = search needs
 
-pairs-code-requires : tie.Need-pairs-code-requires
-pairs-code-requires c κs = search needs
+routed-code-requires : tie.Need-routed-code-requires
+routed-code-requires c κs =
+    let bytes = c .before .before .before .before .before .shared-slice-known .given in
+    routes-eight _ _ _ _ _ _ (λ i. omega (arith, bytes i)) (c .before .before .io .ensures .0)
 
 same-length : tie.Need-same-length
 same-length c = search needs
@@ -17,7 +21,7 @@ same-length c = search needs
 returns : tie.Need-returns
 returns c =
     let l = c .before .before .before .io in
-    (c .pairs-code .ensures ∙ ap routedCode (l .ensures .0), l .ensures .1)
+    (c .routed-code .ensures ∙ ap routedCode (l .ensures .0), l .ensures .1)
 
 pub ruxtajma-io-routes-spec : {M : Type 1} → statement M
-ruxtajma-io-routes-spec = tie.close (tie.spec io-requires pairs-code-requires same-length returns)
+ruxtajma-io-routes-spec = tie.close (tie.spec io-requires routed-code-requires same-length returns)

@@ -3,6 +3,7 @@ use mathlib.Core.Path.{ap, _∙_}
 use borrow.Author.Needs.{needs}
 use Rattle.laws.proofs.Stores.{sets-zeros}
 use Rattle.exports.specs.Codes.{writtenCode}
+use Rattle.exports.proofs.Laws.{write-eight}
 use Rattle.exports.proofs.ruxtajma_write.Statement.{statement}
 use Rattle.exports.proofs.ruxtajma_write.Tie as tie
 
@@ -21,8 +22,8 @@ copy-requires-2 c κs = search needs
 write-requires : tie.Need-write-requires
 write-requires c κs = search needs
 
-code-requires : tie.Need-code-requires
-code-requires c κs = search needs
+written-code-requires : tie.Need-written-code-requires
+written-code-requires c κs = write-eight _ _ (c .before .before .write .ensures .0)
 
 same-length : tie.Need-same-length
 same-length c = search needs
@@ -35,7 +36,7 @@ returns c =
     let a = i .before .before .before .before .before .before .before .args in
     let id = i .copy .ensures ∙ sets-zeros 8 (a .oem .now) in
     let name = k .copy2 .ensures ∙ sets-zeros 12 (a .product .now) in
-    (c .code .ensures ∙ ap writtenCode (rw (id, name) at (w .ensures .0)), rw (id, name) at (w .ensures .1))
+    (c .written-code .ensures ∙ ap writtenCode (rw (id, name) at (w .ensures .0)), rw (id, name) at (w .ensures .1))
 
 pub ruxtajma-write-spec : {M : Type 1} → statement M
 ruxtajma-write-spec =
@@ -46,6 +47,6 @@ ruxtajma-write-spec =
     slice-aggregate-copy-2
     copy-requires-2
     write-requires
-    code-requires
+    written-code-requires
     same-length
     returns)

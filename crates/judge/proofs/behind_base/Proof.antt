@@ -17,11 +17,11 @@ returns c = part-refused _ (c .before .before .before .pre) (c .before .wrong-ex
 le16-requires : tie.Need-le16-requires
 le16-requires c κs = search needs
 
-cast-size : tie.Need-cast-size
-cast-size c = search needs
+cast-end : tie.Need-cast-end
+cast-end c = search needs
 
-add-extended : tie.Need-add-extended
-add-extended c =
+add-end : tie.Need-add-end
+add-end c =
     let g = c .before .before .before .before .pre in
     let h = header-passed _ (g .header) in
     let f = extended-fits _ (sym (c .before .before .wrong-extended .ensures) ∙ c .before .if1 .left) in
@@ -59,6 +59,11 @@ behind-walks-requires c κs =
     let bytes = c .before .before .before .before .before .before .before .before .shared-slice-known .given in
     more-passed _ g e (c .before .before .before .before .before .before .if1 .left) (g .mappings) s f a (λ i. omega (arith, bytes i))
 
+add-t16 : tie.Need-add-t16
+add-t16 c =
+    let r = behind-walks-requires c (c .before .before .before .before .before .before .before .before .before .κs) in
+    omega (arith, r .placed)
+
 add-t17 : tie.Need-add-t17
 add-t17 c =
     let r = behind-walks-requires c (c .before .before .before .before .before .before .before .before .before .κs) in
@@ -66,16 +71,6 @@ add-t17 c =
 
 add-t18 : tie.Need-add-t18
 add-t18 c =
-    let r = behind-walks-requires c (c .before .before .before .before .before .before .before .before .before .κs) in
-    omega (arith, r .placed)
-
-add-t19 : tie.Need-add-t19
-add-t19 c =
-    let r = behind-walks-requires c (c .before .before .before .before .before .before .before .before .before .κs) in
-    omega (arith, r .placed)
-
-add-t20 : tie.Need-add-t20
-add-t20 c =
     let r = behind-walks-requires c (c .before .before .before .before .before .before .before .before .before .κs) in
     omega (arith, r .placed)
 
@@ -95,18 +90,17 @@ behind-base-spec =
     wrong-extended-requires
     returns
     le16-requires
-    cast-size
-    add-extended
+    cast-end
+    add-end
     sub-extended
     part-extended-start
     part-extended-end
     extended-requires
     enum-told
     enum-known-walked
+    add-t16
     add-t17
     add-t18
-    add-t19
-    add-t20
     behind-walks-requires
     returns-2
     returns-3)

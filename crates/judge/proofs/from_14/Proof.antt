@@ -12,14 +12,14 @@ le32-requires c κs = search needs
 returns : tie.Need-returns
 returns c = by-local-apic (c .before .before .before .pre) (c .before .le32 .ensures) (c .if1 .taken)
 
-sub-wrong-boot : tie.Need-sub-wrong-boot
-sub-wrong-boot c = omega arith
+sub-entries : tie.Need-sub-entries
+sub-entries c = omega arith
 
-part-wrong-boot-start : tie.Need-part-wrong-boot-start
-part-wrong-boot-start c = omega arith
+part-entries-start : tie.Need-part-entries-start
+part-entries-start c = omega arith
 
-part-wrong-boot-end : tie.Need-part-wrong-boot-end
-part-wrong-boot-end c = omega arith
+part-entries-end : tie.Need-part-entries-end
+part-entries-end c = omega arith
 
 wrong-boot-requires : tie.Need-wrong-boot-requires
 wrong-boot-requires c κs = search needs
@@ -33,42 +33,33 @@ empty-requires c κs = search needs
 put-requires : tie.Need-put-requires
 put-requires c κs = search needs
 
-sub-claim : tie.Need-sub-claim
-sub-claim c = omega arith
-
-part-claim-start : tie.Need-part-claim-start
-part-claim-start c = omega arith
-
-part-claim-end : tie.Need-part-claim-end
-part-claim-end c = omega arith
-
 claim-requires : tie.Need-claim-requires
 claim-requires c κs = search needs
 
 returns-3 : tie.Need-returns-3
 returns-3 c =
-    let h = c .before .before .before .before .before .before .before .before .before .before .before .pre in
-    let x = c .before .before .before .before .before .before .before .before .before .le32 .ensures in
-    let b = c .before .before .before .before .before .before .wrong-boot .ensures in
-    let o = only255-is (c .before .before .before .before .empty .ensures) (c .before .before .before .put .ensures) in
+    let h = c .before .before .before .before .before .before .before .before .before .before .pre in
+    let x = c .before .before .before .before .before .before .before .before .le32 .ensures in
+    let b = c .before .before .before .before .before .wrong-boot .ensures in
+    let o = only255-is (c .before .before .before .empty .ensures) (c .before .before .put .ensures) in
     by-processor h x b o (c .before .claim .ensures) (c .if3 .taken)
 
 from-15-requires : tie.Need-from-15-requires
 from-15-requires c κs =
-    let h = c .before .before .before .before .before .before .before .before .before .before .before .pre in
-    let x = c .before .before .before .before .before .before .before .before .before .le32 .ensures in
-    let b = c .before .before .before .before .before .before .wrong-boot .ensures in
-    let o = only255-is (c .before .before .before .before .empty .ensures) (c .before .before .before .put .ensures) in
+    let h = c .before .before .before .before .before .before .before .before .before .before .pre in
+    let x = c .before .before .before .before .before .before .before .before .le32 .ensures in
+    let b = c .before .before .before .before .before .wrong-boot .ensures in
+    let o = only255-is (c .before .before .before .empty .ensures) (c .before .before .put .ensures) in
     let e = c .before .claim .ensures in
     (h, (processor-ids h x b o e (c .if3 .left), taken-ids h x b o e (c .if3 .left)))
 
 returns-4 : tie.Need-returns-4
 returns-4 c =
-    let h = c .before .before .before .before .before .before .before .before .before .before .before .before .pre in
-    let x = c .before .before .before .before .before .before .before .before .before .before .le32 .ensures in
-    let b = c .before .before .before .before .before .before .before .wrong-boot .ensures in
-    let o = only255-is (c .before .before .before .before .before .empty .ensures) (c .before .before .before .before .put .ensures) in
-    c .from-15 .ensures ∙ past-14 h x b o (c .before .before .claim .ensures) (omega arith) (c .before .before .before .before .before .before .if2 .left) (c .before .if3 .left)
+    let h = c .before .before .before .before .before .before .before .before .before .before .before .pre in
+    let x = c .before .before .before .before .before .before .before .before .before .le32 .ensures in
+    let b = c .before .before .before .before .before .before .wrong-boot .ensures in
+    let o = only255-is (c .before .before .before .before .empty .ensures) (c .before .before .before .put .ensures) in
+    c .from-15 .ensures ∙ past-14 h x b o (c .before .before .claim .ensures) (omega arith) (c .before .before .before .before .before .if2 .left) (c .before .if3 .left)
 
 pub from-14-spec : {M : Type 1} → statement M
 from-14-spec =
@@ -76,16 +67,13 @@ from-14-spec =
     (tie.spec
     le32-requires
     returns
-    sub-wrong-boot
-    part-wrong-boot-start
-    part-wrong-boot-end
+    sub-entries
+    part-entries-start
+    part-entries-end
     wrong-boot-requires
     returns-2
     empty-requires
     put-requires
-    sub-claim
-    part-claim-start
-    part-claim-end
     claim-requires
     returns-3
     from-15-requires

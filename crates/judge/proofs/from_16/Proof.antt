@@ -6,14 +6,14 @@ use Rattle.judge.proofs.Ways.{by-claim, by-address, apic-ids, past-16}
 use Rattle.judge.proofs.from_16.Statement.{statement}
 use Rattle.judge.proofs.from_16.Tie as tie
 
-sub-claim : tie.Need-sub-claim
-sub-claim c = omega arith
+sub-entries : tie.Need-sub-entries
+sub-entries c = omega arith
 
-part-claim-start : tie.Need-part-claim-start
-part-claim-start c = omega arith
+part-entries-start : tie.Need-part-entries-start
+part-entries-start c = omega arith
 
-part-claim-end : tie.Need-part-claim-end
-part-claim-end c = omega arith
+part-entries-end : tie.Need-part-entries-end
+part-entries-end c = omega arith
 
 claim-requires : tie.Need-claim-requires
 claim-requires c κs = search needs
@@ -23,45 +23,33 @@ returns c =
     let h = c .before .before .before .before .pre in
     by-claim (h .0) (h .1 .2) (c .before .claim .ensures) (c .if1 .taken)
 
-sub-misplaced : tie.Need-sub-misplaced
-sub-misplaced c = omega arith
-
-part-misplaced-start : tie.Need-part-misplaced-start
-part-misplaced-start c = omega arith
-
-part-misplaced-end : tie.Need-part-misplaced-end
-part-misplaced-end c = omega arith
-
 misplaced-requires : tie.Need-misplaced-requires
 misplaced-requires c κs = search needs
 
 returns-2 : tie.Need-returns-2
 returns-2 c =
-    let h = c .before .before .before .before .before .before .before .pre in
-    by-address (h .0) (h .1 .2) (c .before .before .before .before .claim .ensures) (c .before .misplaced .ensures) (c .if2 .taken)
+    let h = c .before .before .before .before .before .before .pre in
+    by-address (h .0) (h .1 .2) (c .before .before .before .claim .ensures) (c .before .misplaced .ensures) (c .if2 .taken)
 
 from-17-requires : tie.Need-from-17-requires
 from-17-requires c κs =
-    let h = c .before .before .before .before .before .before .before .pre in
-    (h .0, (h .1 .0, apic-ids (h .0) (h .1 .2) (c .before .before .before .before .claim .ensures) (c .before .before .before .if1 .left), h .1 .1))
+    let h = c .before .before .before .before .before .before .pre in
+    (h .0, (h .1 .0, apic-ids (h .0) (h .1 .2) (c .before .before .before .claim .ensures) (c .before .before .if1 .left), h .1 .1))
 
 returns-3 : tie.Need-returns-3
 returns-3 c =
-    let h = c .before .before .before .before .before .before .before .before .pre in
-    c .from-17 .ensures ∙ past-16 (h .0) (h .1 .2) (c .before .before .before .before .before .claim .ensures) (c .before .before .misplaced .ensures) (c .before .before .before .before .if1 .left) (c .before .if2 .left)
+    let h = c .before .before .before .before .before .before .before .pre in
+    c .from-17 .ensures ∙ past-16 (h .0) (h .1 .2) (c .before .before .before .before .claim .ensures) (c .before .before .misplaced .ensures) (c .before .before .before .if1 .left) (c .before .if2 .left)
 
 pub from-16-spec : {M : Type 1} → statement M
 from-16-spec =
     tie.close
     (tie.spec
-    sub-claim
-    part-claim-start
-    part-claim-end
+    sub-entries
+    part-entries-start
+    part-entries-end
     claim-requires
     returns
-    sub-misplaced
-    part-misplaced-start
-    part-misplaced-end
     misplaced-requires
     returns-2
     from-17-requires

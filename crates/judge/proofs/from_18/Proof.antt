@@ -22,14 +22,14 @@ returns c =
     let h = c .before .before .before .before .pre in
     by-mapping (h .0) (h .1) (c .before .wrong-mappings .ensures) (c .if1 .taken)
 
-sub-wrong-links : tie.Need-sub-wrong-links
-sub-wrong-links c = omega arith
+sub-tree : tie.Need-sub-tree
+sub-tree c = omega arith
 
-part-wrong-links-start : tie.Need-part-wrong-links-start
-part-wrong-links-start c = omega arith
+part-tree-start : tie.Need-part-tree-start
+part-tree-start c = omega arith
 
-part-wrong-links-end : tie.Need-part-wrong-links-end
-part-wrong-links-end c = omega arith
+part-tree-end : tie.Need-part-tree-end
+part-tree-end c = omega arith
 
 wrong-links-requires : tie.Need-wrong-links-requires
 wrong-links-requires c κs = search needs
@@ -41,14 +41,14 @@ returns-2 c =
     let l = c .before .wrong-links .ensures in
     by-link (h .0) (h .1) m l (c .if2 .taken)
 
-sub-wrong-modifiers : tie.Need-sub-wrong-modifiers
-sub-wrong-modifiers c = omega arith
+sub-changes : tie.Need-sub-changes
+sub-changes c = omega arith
 
-part-wrong-modifiers-start : tie.Need-part-wrong-modifiers-start
-part-wrong-modifiers-start c = omega arith
+part-changes-start : tie.Need-part-changes-start
+part-changes-start c = omega arith
 
-part-wrong-modifiers-end : tie.Need-part-wrong-modifiers-end
-part-wrong-modifiers-end c = omega arith
+part-changes-end : tie.Need-part-changes-end
+part-changes-end c = omega arith
 
 wrong-modifiers-requires : tie.Need-wrong-modifiers-requires
 wrong-modifiers-requires c κs = search needs
@@ -61,33 +61,24 @@ returns-3 c =
     let o = c .before .wrong-modifiers .ensures in
     by-modifier (h .0) (h .1) m l o (c .if3 .taken)
 
-sub-wrong : tie.Need-sub-wrong
-sub-wrong c = omega arith
-
-part-wrong-start : tie.Need-part-wrong-start
-part-wrong-start c = omega arith
-
-part-wrong-end : tie.Need-part-wrong-end
-part-wrong-end c = omega arith
-
 wrong-requires : tie.Need-wrong-requires
 wrong-requires c κs = search needs
 
 returns-4 : tie.Need-returns-4
 returns-4 c =
-    let h = c .before .before .before .before .before .before .before .before .before .before .before .before .before .pre in
-    let m = c .before .before .before .before .before .before .before .before .before .before .wrong-mappings .ensures in
-    let l = c .before .before .before .before .before .before .before .wrong-links .ensures in
-    let o = c .before .before .before .before .wrong-modifiers .ensures in
+    let h = c .before .before .before .before .before .before .before .before .before .before .before .before .pre in
+    let m = c .before .before .before .before .before .before .before .before .before .wrong-mappings .ensures in
+    let l = c .before .before .before .before .before .before .wrong-links .ensures in
+    let o = c .before .before .before .wrong-modifiers .ensures in
     by-parents (h .0) (h .1) m l o (c .before .wrong .ensures) (c .if4 .taken)
 
 returns-5 : tie.Need-returns-5
 returns-5 c =
-    let h = c .before .before .before .before .before .before .before .before .before .before .before .before .before .pre in
-    let m = c .before .before .before .before .before .before .before .before .before .before .wrong-mappings .ensures in
-    let l = c .before .before .before .before .before .before .before .wrong-links .ensures in
-    let o = c .before .before .before .before .wrong-modifiers .ensures in
-    past-18 (h .0) (h .1) m l o (c .before .wrong .ensures) (c .before .before .before .before .before .before .before .before .before .if1 .left) (c .before .before .before .before .before .before .if2 .left) (c .before .before .before .if3 .left) (c .if4 .left)
+    let h = c .before .before .before .before .before .before .before .before .before .before .before .before .pre in
+    let m = c .before .before .before .before .before .before .before .before .before .wrong-mappings .ensures in
+    let l = c .before .before .before .before .before .before .wrong-links .ensures in
+    let o = c .before .before .before .wrong-modifiers .ensures in
+    past-18 (h .0) (h .1) m l o (c .before .wrong .ensures) (c .before .before .before .before .before .before .before .before .if1 .left) (c .before .before .before .before .before .if2 .left) (c .before .before .if3 .left) (c .if4 .left)
 
 pub from-18-spec : {M : Type 1} → statement M
 from-18-spec =
@@ -98,19 +89,16 @@ from-18-spec =
     part-wrong-mappings-end
     wrong-mappings-requires
     returns
-    sub-wrong-links
-    part-wrong-links-start
-    part-wrong-links-end
+    sub-tree
+    part-tree-start
+    part-tree-end
     wrong-links-requires
     returns-2
-    sub-wrong-modifiers
-    part-wrong-modifiers-start
-    part-wrong-modifiers-end
+    sub-changes
+    part-changes-start
+    part-changes-end
     wrong-modifiers-requires
     returns-3
-    sub-wrong
-    part-wrong-start
-    part-wrong-end
     wrong-requires
     returns-4
     returns-5)

@@ -1,7 +1,7 @@
--- `behind`, from what the call ensures and how short the word is.
+-- `behind-stored`, from what the call ensures and how short the word is.
 use borrow.Author.Needs.{needs}
 use native.Mathlib.Omega.{arith}
-use Rattle.lines.proofs.Laws.{behind, decimal-short}
+use Rattle.lines.proofs.Laws.{behind-stored, decimal-short}
 use Rattle.lines.proofs.decimal.Statement.{statement}
 use Rattle.lines.proofs.decimal.Tie as tie
 
@@ -10,17 +10,18 @@ decimal-requires c κs = search needs
 
 add-result : tie.Need-add-result
 add-result c =
-    let a = c .before .before .before .before .before .args in
-    omega (arith, decimal-short (a .x) (a .last))
+    let args = c .before .before .before .before .before .args in
+    omega (arith, decimal-short (args .x) (args .last))
 
 same-length : tie.Need-same-length
 same-length c = search needs
 
 returns : tie.Need-returns
 returns c =
-    let f = c .before .before .decimal in
-    let a = c .before .before .before .before .before .args in
-    behind (a .at) 16 (f .ensures .0) (f .ensures .1) (decimal-short (a .x) (a .last))
+    let d = c .before .before in
+    let args = d .before .before .before .args in
+    behind-stored 20 (args .at) 6 (omega arith) (d .decimal .ensures .0) (d .decimal .ensures .1)
+    (decimal-short (args .x) (args .last))
 
 pub decimal-spec : {M : Type 1} → statement M
 decimal-spec = tie.close (tie.spec decimal-requires add-result same-length returns)

@@ -16,7 +16,10 @@ same-length : tie.Need-same-length
 same-length c = search needs
 
 returns : tie.Need-returns
-returns c = let f = c .before .before in rw (c .before .before .before .before .byte .ensures) at (f .decimal .ensures)
+returns c =
+    let d = c .before .before in
+    let b = d .before .before in
+    rw (b .byte .ensures) at (d .decimal .ensures)
 
 pub field-spec : {M : Type 1} → statement M
 field-spec = tie.close (tie.spec byte-requires cast-decimal decimal-requires same-length returns)

@@ -10,17 +10,18 @@ name-requires c κs = search needs
 
 add-result : tie.Need-add-result
 add-result c =
-    let a = c .before .before .before .before .before .before .args in
-    omega (arith, name-short (a .s .now) (a .last) (c .before .before .before .before .before .before .pre .1))
+    let args = c .before .before .before .before .before .before .args in
+    omega (arith, name-short (args .s .now) (args .last) (omega arith))
 
 same-length : tie.Need-same-length
 same-length c = search needs
 
 returns : tie.Need-returns
 returns c =
-    let f = c .before .before .name in
-    let a = c .before .before .before .before .before .before .args in
-    behind (a .at) 16 (f .ensures .0) (f .ensures .1) (name-short (a .s .now) (a .last) (c .before .before .before .before .before .before .pre .1))
+    let n = c .before .before in
+    let args = n .before .before .before .before .args in
+    behind (args .at) 16 (n .name .ensures .0) (n .name .ensures .1)
+    (name-short (args .s .now) (args .last) (omega arith))
 
 pub name-spec : {M : Type 1} → statement M
 name-spec = tie.close (tie.spec name-requires add-result same-length returns)

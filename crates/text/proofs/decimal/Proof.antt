@@ -1,47 +1,85 @@
--- A number that needs no loop, or any.
-use Prim.Native.Nat.{_+_}
-use mathlib.Core.Path.{sym, _∙_}
+-- A number that needs no loop, or any, where it has room; and else its width.
+use Prim.Native.Nat.{_+_, _≤_}
+use native.Mathlib.Omega.{arith}
 use lib.ListN.{length}
-use lib.Dec.{ltb}
-use borrow.Author.Tests.{leb-true, ltb-true}
 use borrow.Author.Needs.{needs}
-use Rattle.laws.proofs.Tests.{and-parts}
+use Rattle.mps.specs.Listing.{decimal}
+use Rattle.text.specs.Text.{ended}
+use Rattle.text.proofs.Laws.{has-fits, stored-in, stored-out, decimal-is, number-length}
 use Rattle.text.proofs.decimal.Statement.{statement}
 use Rattle.text.proofs.decimal.Tie as tie
 
-has-four-requires : tie.Need-has-four-requires
-has-four-requires c κs = search needs
+has-requires : tie.Need-has-requires
+has-requires c κs = search needs
 
 short-decimal-requires : tie.Need-short-decimal-requires
 short-decimal-requires c κs =
-    let f = c .before .before .has-four in
-    let a = c .before .before .before .before .before .args in
-    let p = and-parts (f .result) (ltb (a .x) 1000) (c .before .if1 .taken) in
-    (leb-true (a .at + 4) (length (a .out .now)) (sym (f .ensures) ∙ p .0), ltb-true (a .x) 1000 (p .1))
+    let a = c .before .before .before .before .before .before .args in (
+      has-fits 20 (a .out .now) (a .at) (c .before .before .before .has .ensures) (c .before .before .if1 .taken),
+      c
+          .before .if2 .taken,
+    )
 
 same-length : tie.Need-same-length
 same-length c = search needs
 
 returns : tie.Need-returns
-returns c = search needs
+returns c =
+    let k = c .before .before .before .before .before in
+    let a = k .before .before .before .before .args in
+    let f = c .before .before .short-decimal .ensures in (
+      f .0,
+      stored-in 20 (a .out .now) (a .at) (ended (decimal (a .x)) (a .last)) (k .before .has .ensures)
+          (k .if1 .taken) (f .1),
+    )
 
-any-decimal-requires : tie.Need-any-decimal-requires
-any-decimal-requires c κs = search needs
+long-decimal-requires : tie.Need-long-decimal-requires
+long-decimal-requires c κs =
+    let a = c .before .before .before .before .before .before .args in
+    has-fits 20 (a .out .now) (a .at) (c .before .before .before .has .ensures) (c .before .before .if1 .taken)
 
 same-length-2 : tie.Need-same-length-2
 same-length-2 c = search needs
 
 returns-2 : tie.Need-returns-2
-returns-2 c = search needs
+returns-2 c =
+    let k = c .before .before .before .before .before in
+    let a = k .before .before .before .before .args in
+    let f = c .before .before .long-decimal .ensures in (
+      f .0,
+      stored-in 20 (a .out .now) (a .at) (ended (decimal (a .x)) (a .last)) (k .before .has .ensures)
+          (k .if1 .taken) (f .1),
+    )
+
+width-requires : tie.Need-width-requires
+width-requires c κs = search needs
+
+add-result : tie.Need-add-result
+add-result c = search needs
+
+same-length-3 : tie.Need-same-length-3
+same-length-3 c = search needs
+
+returns-3 : tie.Need-returns-3
+returns-3 c =
+    let k = c .before in
+    let a = k .before .before .before .before .args in (
+      number-length _ _ _ _ _ (decimal-is _ _ (c .width .ensures .0)) (a .out .now) (a .at) _,
+      stored-out 20 (a .out .now) (a .at) (ended (decimal (a .x)) (a .last)) (k .before .has .ensures) (k .if1 .left),
+    )
 
 pub decimal-spec : {M : Type 1} → statement M
 decimal-spec =
     tie.close
     (tie.spec
-    has-four-requires
+    has-requires
     short-decimal-requires
     same-length
     returns
-    any-decimal-requires
+    long-decimal-requires
     same-length-2
-    returns-2)
+    returns-2
+    width-requires
+    add-result
+    same-length-3
+    returns-3)

@@ -1,69 +1,74 @@
--- `text::hexadecimal` meets its contract, by the same three laws as `decimal`.
+-- All digits and the byte behind them where they have room: `number-fits`.
+use Prim.Native.Nat.{_+_, _≤_}
 use native.Mathlib.Omega.{arith}
-use Rattle.text.proofs.Laws.{hex-is, number-past, number-cut, number-fits}
+use lib.ListN.{length}
 use borrow.Author.Needs.{needs}
+use Rattle.mps.specs.Listing.{hex}
+use Rattle.text.specs.Text.{ended}
+use Rattle.text.proofs.Laws.{has-fits, stored-in, stored-out, hex-is, number-fits, number-length}
 use Rattle.text.proofs.hexadecimal.Statement.{statement}
 use Rattle.text.proofs.hexadecimal.Tie as tie
+
+has-requires : tie.Need-has-requires
+has-requires c κs = search needs
+
+-- What the test tells.
+fits :
+    (c : tie.After-put-hex-arg)
+    → let a = c .before .before .before .before .before .args in a .at + 20 ≤ length (a .out .now)
+fits c =
+    let a = c .before .before .before .before .before .args in
+    has-fits 20 (a .out .now) (a .at) (c .before .before .has .ensures) (c .before .if1 .taken)
+
+put-hex-requires : tie.Need-put-hex-requires
+put-hex-requires c κs = omega (arith, fits c)
+
+add-out : tie.Need-add-out
+add-out c = omega (arith, fits (c .before .before .before))
+
+slice-write-out : tie.Need-slice-write-out
+slice-write-out c = omega (arith, fits (c .before .before .before))
 
 add-result : tie.Need-add-result
 add-result c = search needs
 
+same-length : tie.Need-same-length
+same-length c = search needs
+
 returns : tie.Need-returns
-returns c = number-past _ _ _ _ _ (hex-is _ _) _ _ _ (omega arith)
-
-sub-room : tie.Need-sub-room
-sub-room c = search needs
-
-without-last-requires : tie.Need-without-last-requires
-without-last-requires c κs = search needs
-
-put-hex-requires : tie.Need-put-hex-requires
-put-hex-requires c κs = search needs
+returns c =
+    let k = c .before .before .before .before in
+    let a = k .before .before .before .before .args in
+    let w = ended (hex (a .k) (a .x)) (a .last) in
+    let f = number-fits _ _ _ _ _ (hex-is (a .k) (a .x)) _ _ _ _ (c .before .before .put-hex .ensures) in
+    (f .0, stored-in 20 (a .out .now) (a .at) w (k .before .has .ensures) (k .if1 .taken) (f .1))
 
 add-result-2 : tie.Need-add-result-2
 add-result-2 c = search needs
 
-same-length : tie.Need-same-length
-same-length c = search needs
-
-returns-2 : tie.Need-returns-2
-returns-2 c =
-    number-cut _ _ _ _ _ (hex-is _ _) _ _ _ _ _ _ (omega arith) (omega arith)
-    (c .before .before .before .without-last .ensures) (c .before .before .put-hex .ensures)
-
-put-hex-requires-2 : tie.Need-put-hex-requires-2
-put-hex-requires-2 c κs = search needs
-
-add-out : tie.Need-add-out
-add-out c = search needs
-
-slice-write-out : tie.Need-slice-write-out
-slice-write-out c = search needs
-
-add-result-3 : tie.Need-add-result-3
-add-result-3 c = search needs
-
 same-length-2 : tie.Need-same-length-2
 same-length-2 c = search needs
 
-returns-3 : tie.Need-returns-3
-returns-3 c = number-fits _ _ _ _ _ (hex-is _ _) _ _ _ _ (c .before .before .put-hex2 .ensures)
+returns-2 : tie.Need-returns-2
+returns-2 c =
+    let a = c .before .before .before .before .args in
+    let w = ended (hex (a .k) (a .x)) (a .last) in (
+      number-length _ _ _ _ _ (hex-is (a .k) (a .x)) (a .out .now) (a .at) _,
+      stored-out 20 (a .out .now) (a .at) w
+          (c .before .has .ensures) (c .if1 .left),
+    )
 
 pub hexadecimal-spec : {M : Type 1} → statement M
 hexadecimal-spec =
     tie.close
     (tie.spec
-    add-result
-    returns
-    sub-room
-    without-last-requires
+    has-requires
     put-hex-requires
-    add-result-2
-    same-length
-    returns-2
-    put-hex-requires-2
     add-out
     slice-write-out
-    add-result-3
+    add-result
+    same-length
+    returns
+    add-result-2
     same-length-2
-    returns-3)
+    returns-2)

@@ -12,7 +12,8 @@ use Rattle.text.proofs.put_hex.Tie as tie
 
 abbrev Inv-loop : tie.InvT-loop
 Inv-loop out₀ at x k m₀ v₀ out m v =
-    (sets out at (digits 16 hexDigit m v) ≡ sets out₀ at (digits 16 hexDigit k x)) × (m ≤ k) × (length out ≡ length out₀)
+    (sets out at (digits 16 hexDigit m v) ≡ sets out₀ at (digits 16 hexDigit k x)) × (m ≤ k) ×
+    (length out ≡ length out₀)
 
 abbrev μ-loop : tie.MeasureT-loop
 μ-loop out₀ at x k m₀ v₀ out m v = m
@@ -40,8 +41,12 @@ loop-less c = search needs
 
 loop-again : tie.Need-loop-again Inv-loop μ-loop
 loop-again c =
-    let l = c .before .before .loop in
-    (rw (c .hex-digit .ensures) (sym (digits-next _ _ _ _ _ _ (omega arith)) ∙ l .inv .0), omega arith, simp length-set (l .inv .2))
+    let l = c .before .before .loop in (
+      rw (c .hex-digit .ensures) (sym (digits-next _ _ _ _ _ _ (omega arith)) ∙ l .inv .0),
+      omega arith,
+      simp
+          length-set (l .inv .2),
+    )
 
 same-length : tie.Need-same-length Inv-loop μ-loop
 same-length c = c .before .loop .inv .2

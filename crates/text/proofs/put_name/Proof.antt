@@ -75,7 +75,8 @@ returns-2 : tie.Need-returns-2 Inv-loop μ-loop
 returns-2 c =
     let l = c .before .loop in
     let a = c .before .before .args in
-    sym (sets-past (l .out) (l .place) (ended (unpadded (drop (l .i) (a .s .now))) (a .last)) (omega arith)) ∙ l .inv .0
+    sym (sets-past (l .out) (l .place) (ended (unpadded (drop (l .i) (a .s .now))) (a .last)) (omega arith)) ∙ l .inv
+    .0
 
 pub put-name-spec : {M : Type 1} → statement M
 put-name-spec =

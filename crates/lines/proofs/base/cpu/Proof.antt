@@ -1,8 +1,10 @@
 -- `cpu-is`, from what each word's call ensures.
 use borrow.Author.Needs.{needs}
+use native.Mathlib.Omega.{arith}
+use Rattle.lines.proofs.BaseLines.{cpu-is}
+use Rattle.mps.specs.Numbers.{bytes}
 use Rattle.mps.specs.Words.{text}
 use Rattle.text.specs.Text.{ended}
-use Rattle.lines.proofs.BaseLines.{cpu-is}
 use Rattle.lines.proofs.base.cpu.Statement.{statement}
 use Rattle.lines.proofs.base.cpu.Tie as tie
 
@@ -33,14 +35,17 @@ same-length c = search needs
 returns : tie.Need-returns
 unfolding ended text
 returns c =
-    let f = c .before .before in
-    let e = f .before .before .before .before in
-    let d = e .before .before .before .before in
-    let b = d .before .before .before .before in
-    let a = b .before .before .before .before in
-    let args = a .before .before .before .before .before .before .args in
-    cpu-is (args .e .now) (a .before .before .before .byte .ensures)
-    (a .word .ensures .0) (b .field .ensures .0) (d .field2 .ensures .0) (e .on-off .ensures .0) (f .boot-ap .ensures .0)
+    let b = c .before .before in
+    let o = b .before .before .before .before in
+    let f = o .before .before .before .before in
+    let f' = f .before .before .before .before in
+    let w = f' .before .before .before .before in
+    let b' = w .before .before .before in
+    let args = b' .before .before .args in (
+      cpu-is (bytes 8 (args .e)) (b' .byte .ensures) (w .word .ensures .0) (f' .field .ensures .0)
+          (f .field2 .ensures .0) (o .on-off .ensures .0) (b .boot-ap .ensures .0),
+      omega arith,
+    )
 
 pub cpu-spec : {M : Type 1} → statement M
 cpu-spec =

@@ -1,8 +1,9 @@
 -- The type's law at each return: which line it is.
-use native.Mathlib.Omega.{arith}
 use borrow.Author.Needs.{needs}
+use native.Mathlib.Omega.{arith}
+use Rattle.lines.proofs.BaseLines.{cpu-first, io-apic-first, interrupt-line, int-first, lint-first}
+use Rattle.mps.specs.Numbers.{bytes}
 use Rattle.mps.specs.Words.{text}
-use Rattle.lines.proofs.BaseLines.{cpu-first, bus-first, io-apic-first, int-first, lint-first}
 use Rattle.lines.proofs.base.entry.Statement.{statement}
 use Rattle.lines.proofs.base.entry.Tie as tie
 
@@ -17,36 +18,59 @@ same-length c = search needs
 
 returns : tie.Need-returns
 returns c =
-    let k = c .before .before .before .before .before in
-    cpu-first (k .before .before .before .args .e .now) _ (k .byte .ensures) (omega arith) (c .before .before .cpu .ensures)
+    let c' = c .before .before in
+    let b = c' .before .before .before in
+    let args = b .before .before .args in
+    (cpu-first (bytes 8 (args .e)) _ (b .byte .ensures) (omega arith) (c' .cpu .ensures .0), c' .cpu .ensures .1)
 
-bus-requires : tie.Need-bus-requires
-bus-requires c κs = search needs
+io-apic-requires : tie.Need-io-apic-requires
+io-apic-requires c κs = search needs
 
 same-length-2 : tie.Need-same-length-2
 same-length-2 c = search needs
 
 returns-2 : tie.Need-returns-2
 returns-2 c =
-    let k = c .before .before .before .before .before .before in
-    bus-first (k .before .before .before .args .e .now) _ (k .byte .ensures) (omega arith) (c .before .before .bus .ensures)
+    let i = c .before .before in
+    let b = i .before .before .before .before in
+    let args = b .before .before .args in (
+      io-apic-first (bytes 8 (args .e)) _ (b .byte .ensures) (omega arith) (i .io-apic .ensures .0),
+      i .io-apic
+          .ensures .1,
+    )
 
-io-apic-requires : tie.Need-io-apic-requires
-io-apic-requires c κs = search needs
+slice-aggregate-word : tie.Need-slice-aggregate-word
+slice-aggregate-word c = search needs
+
+word-requires : tie.Need-word-requires
+word-requires c κs = search needs
+
+interrupt-requires : tie.Need-interrupt-requires
+interrupt-requires c κs = search needs
 
 same-length-3 : tie.Need-same-length-3
 same-length-3 c = search needs
 
 returns-3 : tie.Need-returns-3
+unfolding text
 returns-3 c =
-    let k = c .before .before .before .before .before .before .before in
-    io-apic-first (k .before .before .before .args .e .now) _ (k .byte .ensures) (omega arith) (c .before .before .io-apic .ensures)
+    let i = c .before .before in
+    let w = i .before .before .before .before in
+    let b = w .before .before .before .before .before .before in
+    let args = b .before .before .args in (
+      int-first (bytes 8 (args .e)) _ (b .byte .ensures) (omega arith)
+          (interrupt-line (bytes 8 (args .e)) (text "int") (w .word .ensures .0) (i .interrupt .ensures .0)),
+      omega arith,
+    )
 
-slice-aggregate-interrupt : tie.Need-slice-aggregate-interrupt
-slice-aggregate-interrupt c = search needs
+slice-aggregate-word-2 : tie.Need-slice-aggregate-word-2
+slice-aggregate-word-2 c = search needs
 
-interrupt-requires : tie.Need-interrupt-requires
-interrupt-requires c κs = search needs
+word-requires-2 : tie.Need-word-requires-2
+word-requires-2 c κs = search needs
+
+interrupt-requires-2 : tie.Need-interrupt-requires-2
+interrupt-requires-2 c κs = search needs
 
 same-length-4 : tie.Need-same-length-4
 same-length-4 c = search needs
@@ -54,23 +78,15 @@ same-length-4 c = search needs
 returns-4 : tie.Need-returns-4
 unfolding text
 returns-4 c =
-    let k = c .before .before .before .before .before .before .before .before .before in
-    int-first (k .before .before .before .args .e .now) _ (k .byte .ensures) (omega arith) (c .before .before .interrupt .ensures)
-
-slice-aggregate-interrupt-2 : tie.Need-slice-aggregate-interrupt-2
-slice-aggregate-interrupt-2 c = search needs
-
-interrupt-requires-2 : tie.Need-interrupt-requires-2
-interrupt-requires-2 c κs = search needs
-
-same-length-5 : tie.Need-same-length-5
-same-length-5 c = search needs
-
-returns-5 : tie.Need-returns-5
-unfolding text
-returns-5 c =
-    let k = c .before .before .before .before .before .before .before .before .before in
-    lint-first (k .before .before .before .args .e .now) _ (k .byte .ensures) (omega arith) (c .before .before .interrupt2 .ensures)
+    let i = c .before .before in
+    let w = i .before .before .before .before in
+    let b = w .before .before .before .before .before .before in
+    let args = b .before .before .args in (
+      lint-first (bytes 8 (args .e)) _ (b .byte .ensures) (omega arith)
+          (interrupt-line (bytes 8 (args .e)) (text "lint") (w .word2 .ensures .0) (i .interrupt2 .ensures .0)),
+      omega
+          arith,
+    )
 
 pub entry-spec : {M : Type 1} → statement M
 entry-spec =
@@ -80,17 +96,16 @@ entry-spec =
     cpu-requires
     same-length
     returns
-    bus-requires
+    io-apic-requires
     same-length-2
     returns-2
-    io-apic-requires
+    slice-aggregate-word
+    word-requires
+    interrupt-requires
     same-length-3
     returns-3
-    slice-aggregate-interrupt
-    interrupt-requires
-    same-length-4
-    returns-4
-    slice-aggregate-interrupt-2
+    slice-aggregate-word-2
+    word-requires-2
     interrupt-requires-2
-    same-length-5
-    returns-5)
+    same-length-4
+    returns-4)

@@ -1,16 +1,15 @@
--- `io-apic-is`, from what each word's call and the address ensure.
+-- `io-apic-is`, from what each word's call ensures.
 use borrow.Author.Needs.{needs}
+use native.Mathlib.Omega.{arith}
+use Rattle.lines.proofs.BaseLines.{io-apic-is}
+use Rattle.mps.specs.Numbers.{bytes}
 use Rattle.mps.specs.Words.{text}
 use Rattle.text.specs.Text.{ended}
-use Rattle.lines.proofs.BaseLines.{io-apic-is}
 use Rattle.lines.proofs.base.io_apic.Statement.{statement}
 use Rattle.lines.proofs.base.io_apic.Tie as tie
 
 byte-requires : tie.Need-byte-requires
 byte-requires c κs = search needs
-
-le32-requires : tie.Need-le32-requires
-le32-requires c κs = search needs
 
 slice-aggregate-word : tie.Need-slice-aggregate-word
 slice-aggregate-word c = search needs
@@ -27,6 +26,9 @@ field-requires-2 c κs = search needs
 on-off-requires : tie.Need-on-off-requires
 on-off-requires c κs = search needs
 
+high-requires : tie.Need-high-requires
+high-requires c κs = search needs
+
 hex8-requires : tie.Need-hex8-requires
 hex8-requires c κs = search needs
 
@@ -36,26 +38,30 @@ same-length c = search needs
 returns : tie.Need-returns
 unfolding ended text
 returns c =
-    let f = c .before .before in
-    let e = f .before .before .before .before in
-    let d = e .before .before .before .before in
-    let b = d .before .before .before .before in
-    let a = b .before .before .before .before in
-    let args = a .before .before .before .before .before .before .before .args in
-    io-apic-is (args .e .now) (a .before .before .before .before .byte .ensures) (a .before .before .before .le32 .ensures)
-    (a .word .ensures .0) (b .field .ensures .0) (d .field2 .ensures .0) (e .on-off .ensures .0) (f .hex8 .ensures .0)
+    let h = c .before .before in
+    let h' = h .before in
+    let o = h' .before .before .before .before in
+    let f = o .before .before .before .before in
+    let f' = f .before .before .before .before in
+    let w = f' .before .before .before .before in
+    let b = w .before .before .before in
+    let args = b .before .before .args in (
+      io-apic-is (bytes 8 (args .e)) (b .byte .ensures) (h' .high .ensures) (w .word .ensures .0)
+          (f' .field .ensures .0) (f .field2 .ensures .0) (o .on-off .ensures .0) (h .hex8 .ensures .0),
+      omega arith,
+    )
 
 pub io-apic-spec : {M : Type 1} → statement M
 io-apic-spec =
     tie.close
     (tie.spec
     byte-requires
-    le32-requires
     slice-aggregate-word
     word-requires
     field-requires
     field-requires-2
     on-off-requires
+    high-requires
     hex8-requires
     same-length
     returns)

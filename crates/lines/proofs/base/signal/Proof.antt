@@ -1,6 +1,8 @@
 -- `signal-is`, from what each word's call ensures.
 use borrow.Author.Needs.{needs}
+use native.Mathlib.Omega.{arith}
 use Rattle.lines.proofs.BaseLines.{signal-is}
+use Rattle.mps.specs.Numbers.{bytes}
 use Rattle.lines.proofs.base.signal.Statement.{statement}
 use Rattle.lines.proofs.base.signal.Tie as tie
 
@@ -30,13 +32,16 @@ same-length c = search needs
 
 returns : tie.Need-returns
 returns c =
-    let e = c .before .before in
-    let d = e .before .before .before .before in
-    let b = d .before .before .before .before in
-    let a = b .before .before .before .before in
-    let args = a .before .before .before .before .before .args in
-    signal-is (args .e .now) (a .before .before .byte .ensures)
-    (a .decimal .ensures .0) (b .decimal2 .ensures .0) (d .field .ensures .0) (e .field2 .ensures .0)
+    let f = c .before .before in
+    let f' = f .before .before .before .before in
+    let d = f' .before .before .before .before in
+    let d' = d .before .before .before .before in
+    let b = d' .before .before in
+    let args = b .before .before .args in (
+      signal-is (bytes 8 (args .e)) (b .byte .ensures) (d' .decimal .ensures .0) (d .decimal2 .ensures .0)
+          (f' .field .ensures .0) (f .field2 .ensures .0),
+      omega arith,
+    )
 
 pub signal-spec : {M : Type 1} → statement M
 signal-spec =

@@ -1,104 +1,125 @@
--- The line by its type, and `whole`.
+-- A mapping has its own way; any other line is that of 8 bytes: `extended-line-is`.
 use borrow.Author.Needs.{needs}
-use Rattle.mps.specs.Listing.{extendedLine}
-use Rattle.lines.proofs.Laws.{whole}
-use Rattle.lines.proofs.ExtendedLines.{map-type, tree-type, mod-type, skip-type}
+use mathlib.Core.Path.{sym, _∙_}
+use native.Mathlib.Omega.{arith}
+use Rattle.lines.proofs.Laws.{roomy-fits, direct, buffered}
+use Rattle.lines.proofs.Numbers.{extended-line-is, map-line-is}
 use Rattle.lines.proofs.extended.line.Statement.{statement}
 use Rattle.lines.proofs.extended.line.Tie as tie
 
-inside-requires : tie.Need-inside-requires
-inside-requires c κs = search needs
+le64-requires : tie.Need-le64-requires
+le64-requires c κs = search needs
 
 byte-requires : tie.Need-byte-requires
 byte-requires c κs = search needs
 
-map-requires : tie.Need-map-requires
-map-requires c κs = search needs
+le64-requires-2 : tie.Need-le64-requires-2
+le64-requires-2 c κs = search needs
 
-sub-result : tie.Need-sub-result
-sub-result c = search needs
+le64-requires-3 : tie.Need-le64-requires-3
+le64-requires-3 c κs = search needs
+
+map-line-requires : tie.Need-map-line-requires
+map-line-requires c κs = search needs
 
 same-length : tie.Need-same-length
 same-length c = search needs
 
 returns : tie.Need-returns
 returns c =
-    let z = c .before .before in
-    let f = z .before .before .before in
-    let a = f .before .before .before .before .before .args in
-    let is = map-type (a .e .now) (f .byte .ensures) (z .before .before .if1 .taken) in
-    whole (a .out .now) (a .at) (extendedLine (a .e .now)) (f .before .inside .ensures) (rw is (z .map .ensures))
+    let m = c .before .before in
+    let l = m .before .before in
+    let l' = l .before in
+    let i = l' .before in
+    let b = i .before in
+    let l'' = b .before in
+    let s = l'' .before in
+    let args = s .before .before .args in
+    rw (← map-line-is (args .e .now) (l'' .le64 .result) (l'' .le64 .ensures)
+    (λ i. omega (arith, s .shared-slice-known .given i)) (sym (b .byte .ensures) ∙ i .if1 .taken)
+    (l' .le642 .ensures) (l .le643 .ensures)) (m .map-line .ensures)
 
-tree-requires : tie.Need-tree-requires
-tree-requires c κs = search needs
+roomy-requires : tie.Need-roomy-requires
+roomy-requires c κs = search needs
 
-sub-result-2 : tie.Need-sub-result-2
-sub-result-2 c = search needs
+entry-requires : tie.Need-entry-requires
+entry-requires c κs =
+    let i = c .before in
+    let r = i .before in
+    let i' = r .before .before in
+    let b = i' .before in
+    let args = b .before .before .before .before .args in (
+      roomy-fits (args .out .now) (args .at) (r .roomy .ensures) (i .if2 .taken),
+      λ q. i' .if1 .left
+          (b .byte .ensures ∙ q),
+    )
+
+sub-result : tie.Need-sub-result
+sub-result c = search needs
 
 same-length-2 : tie.Need-same-length-2
 same-length-2 c = search needs
 
 returns-2 : tie.Need-returns-2
 returns-2 c =
-    let z = c .before .before in
-    let f = z .before .before .before .before in
-    let a = f .before .before .before .before .before .args in
-    let is = tree-type (a .e .now) (f .byte .ensures) (z .before .before .before .if1 .left) (z .before .before .if2 .taken) in
-    whole (a .out .now) (a .at) (extendedLine (a .e .now)) (f .before .inside .ensures) (rw is (z .tree .ensures))
+    let e = c .before .before in
+    let i = e .before .before .before .before .before in
+    let b = i .before in
+    let l = b .before in
+    let s = l .before in
+    let args = s .before .before .args in
+    rw (← extended-line-is (args .e .now) (l .le64 .result) (l .le64 .ensures)
+    (λ i. omega (arith, s .shared-slice-known .given i)) (λ q. i .if1 .left (b .byte .ensures ∙ q)))
+    (direct (e .entry .ensures .0))
 
-modifier-requires : tie.Need-modifier-requires
-modifier-requires c κs = search needs
+slice-aggregate-entry : tie.Need-slice-aggregate-entry
+slice-aggregate-entry c = search needs
 
-sub-result-3 : tie.Need-sub-result-3
-sub-result-3 c = search needs
+entry-requires-2 : tie.Need-entry-requires-2
+entry-requires-2 c κs = search needs
+
+slice-aggregate-moved : tie.Need-slice-aggregate-moved
+slice-aggregate-moved c = search needs
+
+moved-requires : tie.Need-moved-requires
+moved-requires c κs = search needs
 
 same-length-3 : tie.Need-same-length-3
 same-length-3 c = search needs
 
 returns-3 : tie.Need-returns-3
 returns-3 c =
-    let z = c .before .before in
-    let f = z .before .before .before .before .before in
-    let a = f .before .before .before .before .before .args in
-    let is = mod-type (a .e .now) (f .byte .ensures) (z .before .before .before .before .if1 .left) (z .before .before .before .if2 .left) (z .before .before .if3 .taken) in
-    whole (a .out .now) (a .at) (extendedLine (a .e .now)) (f .before .inside .ensures) (rw is (z .modifier .ensures))
-
-skip-requires : tie.Need-skip-requires
-skip-requires c κs = search needs
-
-sub-result-4 : tie.Need-sub-result-4
-sub-result-4 c = search needs
-
-same-length-4 : tie.Need-same-length-4
-same-length-4 c = search needs
-
-returns-4 : tie.Need-returns-4
-returns-4 c =
-    let z = c .before .before in
-    let f = z .before .before .before .before .before in
-    let a = f .before .before .before .before .before .args in
-    let is = skip-type (a .e .now) (f .byte .ensures) (z .before .before .before .before .if1 .left) (z .before .before .before .if2 .left) (z .before .before .if3 .left) in
-    whole (a .out .now) (a .at) (extendedLine (a .e .now)) (f .before .inside .ensures) (rw is (z .skip .ensures))
+    let m = c .before .before in
+    let e = m .before .before .before .before in
+    let i = e .before .before .before .before .before in
+    let b = i .before in
+    let l = b .before in
+    let s = l .before in
+    let args = s .before .before .args in
+    rw (← extended-line-is (args .e .now) (l .le64 .result) (l .le64 .ensures)
+    (λ i. omega (arith, s .shared-slice-known .given i)) (λ q. i .if1 .left (b .byte .ensures ∙ q)))
+    (buffered (args .out .now) (args .at) (e .entry2 .ensures .1) (e .entry2 .ensures .0) (m .moved .ensures .0)
+    (m .moved .ensures .1))
 
 pub line-spec : {M : Type 1} → statement M
 line-spec =
     tie.close
     (tie.spec
-    inside-requires
+    le64-requires
     byte-requires
-    map-requires
-    sub-result
+    le64-requires-2
+    le64-requires-3
+    map-line-requires
     same-length
     returns
-    tree-requires
-    sub-result-2
+    roomy-requires
+    entry-requires
+    sub-result
     same-length-2
     returns-2
-    modifier-requires
-    sub-result-3
+    slice-aggregate-entry
+    entry-requires-2
+    slice-aggregate-moved
+    moved-requires
     same-length-3
-    returns-3
-    skip-requires
-    sub-result-4
-    same-length-4
-    returns-4)
+    returns-3)

@@ -1,10 +1,15 @@
--- `tree-is`, from what each word's call and the bit's ensure.
+-- `tree-is`, from what each word's call ensures.
 use borrow.Author.Needs.{needs}
+use native.Mathlib.Omega.{arith}
+use Rattle.lines.proofs.ExtendedLines.{tree-is}
+use Rattle.mps.specs.Numbers.{bytes}
 use Rattle.mps.specs.Words.{text}
 use Rattle.text.specs.Text.{ended}
-use Rattle.lines.proofs.ExtendedLines.{tree-is}
 use Rattle.lines.proofs.extended.tree.Statement.{statement}
 use Rattle.lines.proofs.extended.tree.Tie as tie
+
+byte-requires : tie.Need-byte-requires
+byte-requires c κs = search needs
 
 slice-aggregate-word : tie.Need-slice-aggregate-word
 slice-aggregate-word c = search needs
@@ -18,9 +23,6 @@ field-requires c κs = search needs
 field-requires-2 : tie.Need-field-requires-2
 field-requires-2 c κs = search needs
 
-byte-requires : tie.Need-byte-requires
-byte-requires c κs = search needs
-
 cast-decimal : tie.Need-cast-decimal
 cast-decimal c = search needs
 
@@ -33,22 +35,26 @@ same-length c = search needs
 returns : tie.Need-returns
 unfolding ended text
 returns c =
-    let l = c .before .before in
-    let p = l .before .before .before .before .before in
-    let b = p .before .before .before .before in
-    let w = b .before .before .before .before in
-    tree-is (w .before .before .before .before .before .args .e .now) (l .before .byte .ensures)
-    (w .word .ensures .0) (b .field .ensures .0) (p .field2 .ensures .0) (l .decimal .ensures .0)
+    let d = c .before .before in
+    let f = d .before .before .before .before in
+    let f' = f .before .before .before .before in
+    let w = f' .before .before .before .before in
+    let b = w .before .before .before in
+    let args = b .before .before .args in (
+      tree-is (bytes 8 (args .e)) (b .byte .ensures) (w .word .ensures .0) (f' .field .ensures .0)
+          (f .field2 .ensures .0) (d .decimal .ensures .0),
+      omega arith,
+    )
 
 pub tree-spec : {M : Type 1} → statement M
 tree-spec =
     tie.close
     (tie.spec
+    byte-requires
     slice-aggregate-word
     word-requires
     field-requires
     field-requires-2
-    byte-requires
     cast-decimal
     decimal-requires
     same-length

@@ -1,23 +1,26 @@
 -- The line is one word: `end-is`.
 use borrow.Author.Needs.{needs}
+use mathlib.Core.Path.{refl}
+use Rattle.lines.proofs.FrameLines.{end-is}
 use Rattle.mps.specs.Words.{text}
 use Rattle.text.specs.Text.{ended}
-use Rattle.lines.proofs.FrameLines.{end-is}
 use Rattle.lines.proofs.frame.end.Statement.{statement}
 use Rattle.lines.proofs.frame.end.Tie as tie
 
-slice-aggregate-word : tie.Need-slice-aggregate-word
-slice-aggregate-word c = search needs
+slice-aggregate-copy : tie.Need-slice-aggregate-copy
+slice-aggregate-copy c = search needs
 
-word-requires : tie.Need-word-requires
-word-requires c κs = search needs
+copy-requires : tie.Need-copy-requires
+copy-requires c κs = search needs
 
 same-length : tie.Need-same-length
 same-length c = search needs
 
 returns : tie.Need-returns
 unfolding ended text
-returns c = rw (← end-is) (c .before .before .word .ensures)
+returns c =
+    let c' = c .before .before in
+    rw (← end-is) (refl, c' .copy .ensures)
 
 pub end-spec : {M : Type 1} → statement M
-end-spec = tie.close (tie.spec slice-aggregate-word word-requires same-length returns)
+end-spec = tie.close (tie.spec slice-aggregate-copy copy-requires same-length returns)

@@ -1,33 +1,18 @@
--- `pointer-is`, from what each word's call ensures.
+-- The line in the room, or made in the buffer.
 use borrow.Author.Needs.{needs}
-use Rattle.mps.specs.Words.{text}
-use Rattle.mps.specs.Listing.{pointerLine}
-use Rattle.text.specs.Text.{ended}
-use Rattle.lines.proofs.Laws.{whole}
-use Rattle.lines.proofs.FrameLines.{pointer-is}
+use Rattle.lines.proofs.Laws.{roomy-fits, direct, buffered}
 use Rattle.lines.proofs.frame.pointer.Statement.{statement}
 use Rattle.lines.proofs.frame.pointer.Tie as tie
 
-inside-requires : tie.Need-inside-requires
-inside-requires c κs = search needs
+roomy-requires : tie.Need-roomy-requires
+roomy-requires c κs = search needs
 
-slice-aggregate-word : tie.Need-slice-aggregate-word
-slice-aggregate-word c = search needs
-
-word-requires : tie.Need-word-requires
-word-requires c κs = search needs
-
-hex8-requires : tie.Need-hex8-requires
-hex8-requires c κs = search needs
-
-slice-aggregate-word-2 : tie.Need-slice-aggregate-word-2
-slice-aggregate-word-2 c = search needs
-
-word-requires-2 : tie.Need-word-requires-2
-word-requires-2 c κs = search needs
-
-decimal-requires : tie.Need-decimal-requires
-decimal-requires c κs = search needs
+put-pointer-requires : tie.Need-put-pointer-requires
+put-pointer-requires c κs =
+    let i = c .before in
+    let r = i .before in
+    let args = r .before .before .before .args in
+    roomy-fits (args .out .now) (args .at) (r .roomy .ensures) (i .if1 .taken)
 
 sub-result : tie.Need-sub-result
 sub-result c = search needs
@@ -36,28 +21,45 @@ same-length : tie.Need-same-length
 same-length c = search needs
 
 returns : tie.Need-returns
-unfolding ended text
 returns c =
-    let d = c .before .before in
-    let x = d .before .before .before .before in
-    let h = x .before .before .before .before .before in
-    let w = h .before .before .before .before in
-    let i = w .before .before .before in
-    let a = i .before .before .before .args in
-    whole (a .out .now) (a .at) (pointerLine (a .address) (a .imcr)) (i .inside .ensures)
-    (pointer-is (a .address) (a .imcr) (w .word .ensures .0) (h .hex8 .ensures .0) (x .word2 .ensures .0) (d .decimal .ensures .0))
+    let p = c .before .before in
+    direct (p .put-pointer .ensures .0)
+
+slice-aggregate-put-pointer : tie.Need-slice-aggregate-put-pointer
+slice-aggregate-put-pointer c = search needs
+
+put-pointer-requires-2 : tie.Need-put-pointer-requires-2
+put-pointer-requires-2 c κs = search needs
+
+slice-aggregate-moved : tie.Need-slice-aggregate-moved
+slice-aggregate-moved c = search needs
+
+moved-requires : tie.Need-moved-requires
+moved-requires c κs = search needs
+
+same-length-2 : tie.Need-same-length-2
+same-length-2 c = search needs
+
+returns-2 : tie.Need-returns-2
+returns-2 c =
+    let m = c .before .before in
+    let p = m .before .before .before .before in
+    let args = p .before .before .before .before .before .before .args in
+    buffered (args .out .now) (args .at) (p .put-pointer2 .ensures .1) (p .put-pointer2 .ensures .0)
+    (m .moved .ensures .0) (m .moved .ensures .1)
 
 pub pointer-spec : {M : Type 1} → statement M
 pointer-spec =
     tie.close
     (tie.spec
-    inside-requires
-    slice-aggregate-word
-    word-requires
-    hex8-requires
-    slice-aggregate-word-2
-    word-requires-2
-    decimal-requires
+    roomy-requires
+    put-pointer-requires
     sub-result
     same-length
-    returns)
+    returns
+    slice-aggregate-put-pointer
+    put-pointer-requires-2
+    slice-aggregate-moved
+    moved-requires
+    same-length-2
+    returns-2)

@@ -1,49 +1,39 @@
--- `refused-is`, from what each word's call ensures.
+-- The line made in the buffer.
 use borrow.Author.Needs.{needs}
-use Rattle.mps.specs.Words.{text}
-use Rattle.mps.specs.Listing.{refusedLine}
-use Rattle.text.specs.Text.{ended}
-use Rattle.lines.proofs.Laws.{whole}
-use Rattle.lines.proofs.FrameLines.{refused-is}
+use Rattle.lines.proofs.Laws.{buffered}
 use Rattle.lines.proofs.frame.refused.Statement.{statement}
 use Rattle.lines.proofs.frame.refused.Tie as tie
 
-inside-requires : tie.Need-inside-requires
-inside-requires c κs = search needs
+slice-aggregate-put-refused : tie.Need-slice-aggregate-put-refused
+slice-aggregate-put-refused c = search needs
 
-slice-aggregate-word : tie.Need-slice-aggregate-word
-slice-aggregate-word c = search needs
+put-refused-requires : tie.Need-put-refused-requires
+put-refused-requires c κs = search needs
 
-word-requires : tie.Need-word-requires
-word-requires c κs = search needs
+slice-aggregate-moved : tie.Need-slice-aggregate-moved
+slice-aggregate-moved c = search needs
 
-decimal-requires : tie.Need-decimal-requires
-decimal-requires c κs = search needs
-
-sub-result : tie.Need-sub-result
-sub-result c = search needs
+moved-requires : tie.Need-moved-requires
+moved-requires c κs = search needs
 
 same-length : tie.Need-same-length
 same-length c = search needs
 
 returns : tie.Need-returns
-unfolding ended text
 returns c =
-    let d = c .before .before in
-    let w = d .before .before .before .before in
-    let i = w .before .before .before in
-    let a = i .before .before .before .args in
-    whole (a .out .now) (a .at) (refusedLine (a .number)) (i .inside .ensures)
-    (refused-is (a .number) (w .word .ensures .0) (d .decimal .ensures .0))
+    let m = c .before .before in
+    let p = m .before .before .before .before in
+    let args = p .before .before .before .args in
+    buffered (args .out .now) (args .at) (p .put-refused .ensures .1) (p .put-refused .ensures .0)
+    (m .moved .ensures .0) (m .moved .ensures .1)
 
 pub refused-spec : {M : Type 1} → statement M
 refused-spec =
     tie.close
     (tie.spec
-    inside-requires
-    slice-aggregate-word
-    word-requires
-    decimal-requires
-    sub-result
+    slice-aggregate-put-refused
+    put-refused-requires
+    slice-aggregate-moved
+    moved-requires
     same-length
     returns)

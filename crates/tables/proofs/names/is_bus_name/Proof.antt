@@ -14,10 +14,10 @@ use Rattle.tables.proofs.names.is_bus_name.Statement.{statement}
 use Rattle.tables.proofs.names.is_bus_name.Tie as tie
 
 abbrev Inv-loop : tie.InvT-loop
-Inv-loop name k₀ k = (any (same name) (drop k busNames) ≡ isBusName name) × (k ≤ 18)
+Inv-loop name names k₀ k = (any (same name) (drop k busNames) ≡ isBusName name) × (k ≤ 18)
 
 abbrev μ-loop : tie.MeasureT-loop
-μ-loop name k₀ k = 18 - k
+μ-loop name names k₀ k = 18 - k
 
 loop-holds : tie.Need-loop-holds Inv-loop μ-loop
 unfolding isBusName

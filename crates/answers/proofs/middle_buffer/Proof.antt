@@ -1,0 +1,12 @@
+-- By a law: to count the cells would cost by their number.
+use Prim.Native.Nat.{ℕ}
+use mathlib.Core.Path.{sym}
+use lib.ListN.{length-replicate}
+use Rattle.answers.proofs.middle_buffer.Statement.{statement}
+use Rattle.answers.proofs.middle_buffer.Tie as tie
+
+returns : tie.Need-returns
+returns c = sym (length-replicate {A = ℕ} 393216 0)
+
+pub middle-buffer-spec : {M : Type 1} → statement M
+middle-buffer-spec = tie.close (tie.spec returns)

@@ -1,0 +1,212 @@
+/*
+ * Ruxtajma's calls for C and for any language that can call C.  The library is
+ * x86-64; `rt staticlib exports` proves it and writes target/staticlib/libexports.a.
+ *
+ * A slice is a pointer and a length.  The caller lends that many readable bytes
+ * for the time of the call, writable ones where the pointer is not const, at any
+ * alignment.  What may be written overlaps no other slice of its call: the stated
+ * bytes of an edit are a copy, never those of the table itself.  A pointer is not
+ * null, even where the length is 0.  Any bytes may be lent.  Nothing is allocated,
+ * and nothing is kept between two calls: calls that lend different memory may run
+ * at once.  Until a call returns nobody else writes what is lent to it, nor reads
+ * what it may write.
+ *
+ * Every call but ruxtajma_addresses answers one number of this form.  Its low byte
+ * is the refusal's number, 0 where there is none; its second byte is the inner
+ * number where the first is 23, else 0; the 48 bits above are the values of the
+ * answer, 0 at a refusal.  A refusal leaves every byte as it was, but for
+ * ruxtajma_write where the finished table breaks a rule.
+ *
+ * The numbers.  A call tests them in the order in which its comment names them;
+ * of 10 to 12 the first faulty entry decides, then the lower number.
+ *   1  the dump breaks a rule of its own     14  local APIC address, processors
+ *   2  no good floating pointer              15  buses
+ *   3  the pointer's revision is not 4       16  I/O APICs
+ *   4  feature byte 1 and address            17  interrupts
+ *   5  no 44 bytes of header in one region   18  address spaces, links, modifiers
+ *   6  not "PCMP"                            19  answer longer than the room
+ *   7  base length                           20  no such place
+ *   8  base sum                              21  length or type of an edit
+ *   9  the table's revision is not 4         22  changed meanwhile: not as stated
+ *  10  a base type over 4                    23  the edited table would be refused
+ *  11  a cut entry, or the count             24  a query about an unlisted bus, or
+ *  12  base types not ascending                  of an unknown kind or type
+ *  13  the extended part
+ */
+#ifndef RUXTAJMA_H
+#define RUXTAJMA_H
+
+#include <stddef.h>
+#include <stdint.h>
+
+#ifdef __cplusplus
+extern "C" {
+#endif
+
+/* ---- what stands in an answer ---- */
+
+/* The number of the refusal, or 0. */
+static inline unsigned ruxtajma_refusal(uint64_t answer)
+{
+    return (unsigned)(answer & 255);
+}
+
+/* At 23: the number that the edited table would be refused with. */
+static inline unsigned ruxtajma_inner(uint64_t answer)
+{
+    return (unsigned)(answer >> 8 & 255);
+}
+
+/* How many bytes, or pairs, were written; or how long an entry is. */
+static inline size_t ruxtajma_count(uint64_t answer)
+{
+    return (size_t)(answer >> 16);
+}
+
+/* ---- the calls ---- */
+
+/* Judges a bare table.  5 to 18, or accepted.  Writes nothing. */
+uint64_t ruxtajma_judge(const uint8_t *table, size_t length);
+
+/*
+ * What a dump holds.  1 to 18; or a default configuration, whose number, 1 to 7,
+ * ruxtajma_default() takes out; or an accepted table, of which that is 0: it
+ * begins at ruxtajma_start() in the dump, and ruxtajma_length() bytes lie from
+ * there to the end of its region.  Of both, ruxtajma_imcr() is the IMCR bit, 0 or
+ * 1.  Writes nothing.
+ */
+uint64_t ruxtajma_read(const uint8_t *dump, size_t length);
+
+static inline unsigned ruxtajma_default(uint64_t answer)
+{
+    return (unsigned)(answer >> 16 & 255);
+}
+
+static inline unsigned ruxtajma_imcr(uint64_t answer)
+{
+    return (unsigned)(answer >> 24 & 255);
+}
+
+static inline size_t ruxtajma_start(uint64_t answer)
+{
+    return (size_t)(answer >> 32 & 65535);
+}
+
+static inline size_t ruxtajma_length(uint64_t answer)
+{
+    return (size_t)(answer >> 48);
+}
+
+/*
+ * The physical addresses in a dump that holds an accepted table, and 0 for any
+ * other dump: this is the one answer with no refusal in it.  Writes nothing.
+ */
+uint64_t ruxtajma_addresses(const uint8_t *dump, size_t length);
+
+static inline uint32_t ruxtajma_pointer_address(uint64_t answer)
+{
+    return (uint32_t)(answer >> 32);
+}
+
+static inline uint32_t ruxtajma_table_address(uint64_t answer)
+{
+    return (uint32_t)answer;
+}
+
+/*
+ * Lists a dump: the text stands in the room from its first byte on, with no zero
+ * behind it, and what lies past it stays.  1 to 19, or the count of bytes.  A room
+ * of 65,536 bytes holds every listing.
+ */
+uint64_t ruxtajma_list(const uint8_t *dump, size_t length,
+                       uint8_t *room, size_t room_length);
+
+/*
+ * Writes a new table from its parts: it stands in the room from its first byte
+ * on, and what lies past it stays.  7 where the base entries are over 4,052 bytes,
+ * 13 where the extended ones are over 4,096, 19: all of the room stays.  Then 10
+ * to 18 where the finished table breaks a rule: just its bytes are 0.  Else the
+ * count of its bytes; a room of 8,192 holds every table.  Eight bytes are taken of
+ * the OEM ID and twelve of the product, 0 where there are fewer.
+ */
+uint64_t ruxtajma_write(const uint8_t *oem, size_t oem_length,
+                        const uint8_t *product, size_t product_length,
+                        uint32_t oem_pointer, uint16_t oem_size,
+                        uint32_t local_apic, uint8_t reserved,
+                        const uint8_t *base, size_t base_length,
+                        const uint8_t *extended, size_t extended_length,
+                        uint8_t *room, size_t room_length);
+
+/*
+ * Where the parts of a table stand.  5 to 18; or its base entries are the bytes
+ * from 44 to ruxtajma_base_end(), its extended entries those from there to
+ * ruxtajma_extended_end().  The header fields that the writer takes stand at 8
+ * (OEM ID), 16 (product), 28 (OEM pointer), 32 (OEM size), 36 (local APIC address)
+ * and 43 (reserved).  Writes nothing.
+ */
+uint64_t ruxtajma_parts(const uint8_t *table, size_t length);
+
+static inline size_t ruxtajma_base_end(uint64_t answer)
+{
+    return (size_t)(answer >> 16 & 65535);
+}
+
+static inline size_t ruxtajma_extended_end(uint64_t answer)
+{
+    return (size_t)(answer >> 32);
+}
+
+/*
+ * Replaces the base entry at a place, counted from 0: the wanted bytes stand in
+ * the table, and the base checksum for them; every other byte is as it was.  5 to
+ * 18, 20 to 22, or 23 with an inner number: every byte is as it was.
+ */
+uint64_t ruxtajma_edit(uint8_t *table, size_t length, size_t place,
+                       const uint8_t *stated, size_t stated_length,
+                       const uint8_t *wanted, size_t wanted_length);
+
+/*
+ * The entry at a place, a byte offset, of any buffer: the count of its bytes, 0
+ * where no whole entry stands.  The next one is that many bytes further.  It
+ * refuses nothing and writes nothing.
+ */
+uint64_t ruxtajma_entry(const uint8_t *table, size_t length, size_t place);
+
+/*
+ * Where an interrupt line goes, given its type (0 INT, 1 NMI, 2 SMI, 3 ExtINT), bus
+ * and IRQ: pairs of an ID and an input, two bytes each, from the room's first byte
+ * on, and what lies past them stays.  5 to 18, 24 or 19, or the count of pairs.  To
+ * I/O APICs, and to local APICs.
+ */
+uint64_t ruxtajma_io_routes(const uint8_t *table, size_t length,
+                            uint8_t type, uint8_t bus, uint8_t irq,
+                            uint8_t *room, size_t room_length);
+uint64_t ruxtajma_local_routes(const uint8_t *table, size_t length,
+                               uint8_t type, uint8_t bus, uint8_t irq,
+                               uint8_t *room, size_t room_length);
+
+/*
+ * Whether a bus sees an address of a kind (0 I/O, 1 memory, 2 prefetch).  5 to 18
+ * or 24; or ruxtajma_seen(), one of the three, and ruxtajma_links() of how many
+ * links to parents were climbed.  Writes nothing.
+ */
+uint64_t ruxtajma_address(const uint8_t *table, size_t length,
+                          uint8_t bus, uint8_t kind, uint64_t address);
+
+enum { RUXTAJMA_NO, RUXTAJMA_YES, RUXTAJMA_UNDECLARED };
+
+static inline unsigned ruxtajma_seen(uint64_t answer)
+{
+    return (unsigned)(answer >> 16 & 255);
+}
+
+static inline unsigned ruxtajma_links(uint64_t answer)
+{
+    return (unsigned)(answer >> 24);
+}
+
+#ifdef __cplusplus
+}
+#endif
+
+#endif
