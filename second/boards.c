@@ -48,11 +48,11 @@ static void mappings(struct builder *b, uint32_t n, uint32_t n_bus)
                     (uint64_t)i << 24, 1u << (12 + i % 12));
 }
 
-/* Every other bus subtractive, or all of them. */
-static void links(struct builder *b, uint32_t n_bus, bool chain, bool all)
+/* A tree of which every other bus is subtractive, or a chain of which all are. */
+static void links(struct builder *b, uint32_t n_bus, bool chain)
 {
     for (uint32_t i = n_bus - 1; i > 0; i--)
-        add_link(b, (uint8_t)i, all || i & 1, (uint8_t)(chain ? i - 1 : i / 2));
+        add_link(b, (uint8_t)i, chain || i & 1, (uint8_t)(chain ? i - 1 : i / 2));
 }
 
 static void modifiers(struct builder *b, uint32_t n, uint32_t n_bus)
@@ -88,7 +88,7 @@ void make_mixed(struct builder *b, size_t goal, uint32_t part)
     io_apics(b, 16, 8 / part);
     interrupts(b, goal, 32 / part, 16, 8 / part, 16 / part);
     mappings(b, 150 / part, 32 / part);
-    links(b, 32 / part, false, false);
+    links(b, 32 / part, false);
     modifiers(b, 20 / part, 32 / part);
     unknowns(b, goal, 16);
 }
@@ -114,7 +114,7 @@ void make_processors(struct builder *b, size_t goal, uint32_t part)
     mostly_mappings(b, goal, 1);
 }
 
-static void chain(struct builder *b, size_t goal, uint32_t part, bool subtractive)
+void make_chain(struct builder *b, size_t goal, uint32_t part)
 {
     uint32_t n = 256 / part;
 
@@ -123,18 +123,8 @@ static void chain(struct builder *b, size_t goal, uint32_t part, bool subtractiv
     io_apics(b, 1, 1);
     interrupts(b, goal, n, 1, 1, 1);
     mappings(b, 100 / part, n);
-    links(b, n, true, subtractive);
+    links(b, n, true);
     modifiers(b, (uint32_t)((goal - b->ext_len) / 8), n);
-}
-
-void make_chain(struct builder *b, size_t goal, uint32_t part)
-{
-    chain(b, goal, part, false);
-}
-
-void make_climb(struct builder *b, size_t goal, uint32_t part)
-{
-    chain(b, goal, part, true);
 }
 
 void make_io_apics(struct builder *b, size_t goal, uint32_t part)
@@ -183,18 +173,29 @@ void make_many_targets(struct builder *b, size_t goal, uint32_t part)
     one_source(b, goal, part, 250 / part);
 }
 
-void make_typical(struct builder *b)
+void make_bench(struct builder *b, size_t goal, uint32_t part)
 {
+    uint8_t board[HEADER + 52];
+
+    (void)goal, (void)part;
+    bench_board(board);
+    unseal(b, board);
+}
+
+void make_typical(struct builder *b, size_t goal, uint32_t part)
+{
+    (void)goal, (void)part;
     processors(b, 4, 0);
     buses(b, 4);
     io_apics(b, 4, 2);
     interrupts(b, HEADER + b->base_len + 8 * 24, 4, 4, 2, 4);
     mappings(b, 4, 4);
-    links(b, 3, false, false);
+    links(b, 3, false);
     modifiers(b, 2, 4);
 }
 
-size_t dump_around(const struct builder *b, size_t size, bool last, uint8_t *out)
+size_t dump_around(const struct builder *b, size_t size, enum pointer pointer,
+                   uint8_t *out)
 {
     size_t length = HEADER + b->base_len + b->ext_len + 16;
 
@@ -206,11 +207,14 @@ size_t dump_around(const struct builder *b, size_t size, bool last, uint8_t *out
     put_le(out + 6, length, 4);
 
     uint8_t *body = out + 10;
-    uint8_t *p = last ? body + length / 16 * 16 - 16 : body;
+    seal(b, body + 16);
+    if (pointer == NOWHERE)
+        return 10 + length;
+
+    uint8_t *p = pointer == LAST ? body + length / 16 * 16 - 16 : body;
     memcpy(p, "_MP_", 4);
     put_le(p + 4, 0xF0010, 4);
     p[8] = 1, p[9] = 4;
     p[10] = (uint8_t)-byte_sum(p, 16);
-    seal(b, body + 16);
     return 10 + length;
 }

@@ -27,6 +27,11 @@ uint32_t get_le(const uint8_t *p, size_t n)
     return v;
 }
 
+uint64_t get_long(const uint8_t *p)
+{
+    return get_le(p, 4) | (uint64_t)get_le(p + 4, 4) << 32;
+}
+
 uint8_t byte_sum(const uint8_t *p, size_t n)
 {
     uint8_t s = 0;
@@ -141,6 +146,17 @@ void add_unknown(struct builder *b, uint8_t type, uint8_t length, uint8_t fill)
 
     memset(e, fill, length);
     e[0] = type, e[1] = length;
+}
+
+void put_fields(const uint8_t *header, uint64_t field[FIELDS])
+{
+    field[0] = get_long(header + 8);
+    field[1] = get_long(header + 16);
+    field[2] = get_le(header + 24, 4);
+    field[3] = get_le(header + 28, 4);
+    field[4] = get_le(header + 32, 2);
+    field[5] = get_le(header + 36, 4);
+    field[6] = header[43];
 }
 
 size_t base_of(const uint8_t *image) { return get_le(image + 4, 2); }

@@ -51,9 +51,18 @@ size_t ext_of(const uint8_t *image);
 
 /* Little-endian numbers of n bytes. */
 void put_le(uint8_t *p, uint64_t v, size_t n);
-uint32_t get_le(const uint8_t *p, size_t n);
+uint32_t get_le(const uint8_t *p, size_t n);   /* up to 4 */
+uint64_t get_long(const uint8_t *p);           /* 8 */
 
 uint8_t byte_sum(const uint8_t *p, size_t n);
+
+/*
+ * The fields of a header that a writer takes, each as one number: the OEM ID, the
+ * first eight bytes of the product, its last four, OEM pointer, OEM size, local
+ * APIC address, byte 43.
+ */
+enum { FIELDS = 7 };
+void put_fields(const uint8_t *header, uint64_t field[FIELDS]);
 
 /* A processor and bus 0. */
 void small_board(struct builder *b);

@@ -1,15 +1,19 @@
 /*
- * compare COUNT SEED [-v]: judges tables, lists dumps, writes tables from their
- * parts, edits tables and asks them by the plain program and by the library:
- * fixed cases, single faults, and COUNT generated ones of each.  What is lent
- * touches an unreadable page.  Exit 1 on any difference (the case goes to
- * compare-failed.hex), on bytes changed that may not be, or if an answer was
- * reached in fewer than COUNT / 1,000 cases.
+ * compare [-v] COUNT SEED [PROGRAM [WORD..]]: judges tables, reads and lists dumps,
+ * writes tables from their parts and takes them apart, edits tables, asks them and
+ * reads their entries, by the plain program and by the proved one: fixed cases,
+ * single faults, and COUNT generated ones of each.  PROGRAM answers over a pipe;
+ * none where the library is linked.  What is lent touches an unreadable page.
+ * Exit 1 on any difference (the case goes to compare-failed.hex), on bytes changed
+ * that may not be, or if something was reached too seldom.
  */
 #include "arena.h"
+#include "calls.h"
 #include "cases.h"
 #include "comparing.h"
 #include "faults.h"
+#include "ours.h"
+#include "places.h"
 
 #include <stdio.h>
 #include <stdlib.h>
@@ -17,12 +21,22 @@
 
 typedef unsigned long long number;
 
-enum { EACH = 20 };   /* how often every single fault, whatever COUNT is */
+enum {
+    THOROUGH = 100000   /* COUNT from which on the fixed cases are all made */
+};
+
+bool thorough;
 
 static struct test_case the_case;
 static struct dump_case the_dump;
 static struct parts_case the_parts;
 static bool loud, enough = true;
+
+/* How often every single fault, whatever COUNT is. */
+static int each(void)
+{
+    return thorough ? 20 : 3;
+}
 
 static void require(const char *what, number reached, number least)
 {
@@ -47,9 +61,9 @@ static void single_tables(struct rng *r)
     for (size_t k = 0; k < fault_count(); k++) {
         const struct fault *f = fault_at(k);
 
-        for (int i = 0; i < EACH; i++) {
+        for (int i = 0; i < each(); i++) {
             fault_case(r, f, &the_case);
-            compare_table(the_case.label, the_case.bytes, the_case.size,
+            compare_table(r, the_case.label, the_case.bytes, the_case.size,
                           the_case.expected);
         }
         if (loud)
@@ -68,7 +82,7 @@ static void tables(struct rng *r, number count, const char *seed)
 
     for (number i = 0; i < count; i++) {
         gen_case(r, &the_case);
-        reached[compare_table(the_case.label, the_case.bytes, the_case.size,
+        reached[compare_table(r, the_case.label, the_case.bytes, the_case.size,
                               the_case.expected)]++;
     }
     printf("tables: %llu fixed, %llu single faults (%zu kinds), %llu generated, "
@@ -83,7 +97,7 @@ static void single_dumps(struct rng *r, struct tally *t)
     for (size_t k = 0; k < dump_fault_count(); k++) {
         const struct dump_fault *f = dump_fault_at(k);
 
-        for (int i = 0; i < EACH; i++) {
+        for (int i = 0; i < each(); i++) {
             dump_fault_case(r, f, &the_dump);
             compare_dump(r, &the_dump, t);
         }
@@ -115,8 +129,8 @@ static void dumps(struct rng *r, number count, const char *seed)
     for (int k = 1; k <= 18; k++)
         report(k, t.refused[k], count);
     report(19, t.too_small, count);
-    printf("rooms: %llu; 19 counts rooms, the others dumps; longest listing %zu "
-           "(fixed: %zu)\n", t.rooms, t.longest, before.longest);
+    printf("rooms: %llu; 19 counts rooms, the others dumps, each also read; longest "
+           "listing %zu (fixed: %zu)\n", t.rooms, t.longest, before.longest);
 }
 
 /* Parts of any kind, and those of tables of any kind. */
@@ -221,22 +235,46 @@ static void queries(struct rng *r, number count, const char *seed)
     report_classes("links", links, t.links, count);
 }
 
+/* Four places for each of COUNT. */
+static void entries(struct rng *r, number count, const char *seed)
+{
+    struct entry_tally before = { 0 }, t = { 0 };
+
+    fixed_entries(r, &before);
+    while (t.places < 4 * count) {
+        gen_entered(r, &the_case);
+        compare_entries(r, &the_case, &t);
+    }
+    printf("entries: %llu fixed places, %llu generated in %llu buffers, seed %s: no "
+           "difference\n", before.places, t.places, t.buffers, seed);
+    printf("whole entries: %llu; walks from 44 to the end: %llu (fixed: %llu)\n",
+           t.whole, t.walks, before.walks);
+    require("whole entries", t.whole, count);
+    require("walks", t.walks, count / 1000);
+}
+
 int main(int argc, char **argv)
 {
+    loud = argc > 1 && strcmp(argv[1], "-v") == 0;
+    argc -= loud, argv += loud;
     if (argc < 3) {
-        fprintf(stderr, "usage: compare COUNT SEED [-v]\n");
+        fprintf(stderr, "usage: compare [-v] COUNT SEED [PROGRAM [WORD..]]\n");
         return 2;
     }
-    number count = strtoull(argv[1], NULL, 0);
-    struct rng r = { strtoull(argv[2], NULL, 0) };
+    number count = strtoull(argv[1], NULL, 10);
+    struct rng r = { strtoull(argv[2], NULL, 10) };
 
-    loud = argc > 3 && strcmp(argv[3], "-v") == 0;
+    thorough = count >= THOROUGH;
     setvbuf(stdout, NULL, _IOLBF, 0);
     make_arenas();
+    start_ours(argv + 3);
     tables(&r, count, argv[2]);
     dumps(&r, count, argv[2]);
     writes(&r, count, argv[2]);
     edits(&r, count, argv[2]);
     queries(&r, count, argv[2]);
+    entries(&r, count, argv[2]);
+    end_ours();
+    enough &= report_calls(count, argv[2]);
     return enough ? 0 : 1;
 }

@@ -7,10 +7,11 @@
 #include "comparing.h"
 
 #include "arena.h"
+#include "calls.h"
 #include "judge.h"
-#include "library.h"
 #include "query.h"
 #include "room.h"
+#include "ruxtajma.h"
 
 #include <stdio.h>
 #include <string.h>
@@ -38,7 +39,9 @@ struct asked *ask_table(struct rng *r, const struct test_case *c)
     memcpy(table.place, c->bytes, c->size);
     memcpy(table.mark, mark, CANARY);
     begin_case(c->label, c->bytes, c->size);
-    start_queries(&asked, c, plain_judge(c->bytes, c->size) == 0);
+    bool accepted = plain_judge(c->bytes, c->size) == 0;
+    note_table(c->bytes, c->size, accepted);
+    start_queries(&asked, c, accepted);
     return &asked;
 }
 
@@ -60,9 +63,9 @@ static _Noreturn void routes_differ(const char *what, const struct route_query *
 
     snprintf(text, sizeof text, "%s, %s route of type %u, bus %u, IRQ %u, room of "
              "%zu, %u and %u pairs, %zu expected", what, q->local ? "local" : "I/O",
-             q->type, q->bus, q->irq, size, (unsigned)(uint32_t)plain,
-             (unsigned)(uint32_t)ours, q->count);
-    fail(text, (long long)(plain >> 32), (long long)(ours >> 32), q->expected);
+             q->type, q->bus, q->irq, size, (unsigned)ruxtajma_count(plain),
+             (unsigned)ruxtajma_count(ours), q->count);
+    fail(text, ruxtajma_refusal(plain), ruxtajma_refusal(ours), q->expected);
 }
 
 /* Calls one of them and tests what it may not touch. */
@@ -72,10 +75,10 @@ static uint64_t call(router *ask, const char *wrong, const struct route_query *q
     refill(l);
     uint64_t answer = ask(table.place, table.n, q->type, q->bus, q->irq, l->room,
                           l->size);
-    size_t length = answer >> 32 != 0 ? 0 : 2 * (size_t)answer;
+    size_t length = 2 * ruxtajma_count(answer);
 
-    if (length > l->size || (answer >> 32 != 0 && (uint32_t)answer != 0)
-        || !stands(l, length) || !table_stands())
+    if (length > l->size || !sound_form(answer) || !stands(l, length)
+        || !table_stands())
         routes_differ(wrong, q, l->size, answer, answer);
     return answer;
 }
@@ -96,21 +99,22 @@ static uint64_t route_both(struct rng *r, const struct route_query *q, size_t si
         routes_differ("different answers", q, size, plain, ours);
     if (memcmp(first_room, l.room, size) != 0)
         routes_differ("different bytes", q, size, plain, ours);
+    count_call(ruxtajma_refusal(plain));
     t->rooms++;
-    t->too_small += plain >> 32 == 19;
+    t->too_small += plain == 19;
     return plain;
 }
 
 /* first_room has the answer: what was known beforehand must be there. */
 static void test_known(const struct route_query *q, size_t size, uint64_t answer)
 {
-    uint64_t number = answer >> 32;
+    unsigned number = ruxtajma_refusal(answer);
 
     if (number != 0 && number != 24 && (number < 5 || number > 18))
         routes_differ("no such number", q, size, answer, answer);
     if (q->expected < 0)
         return;
-    if (number != (uint64_t)q->expected || (uint32_t)answer != q->count)
+    if (number != (unsigned)q->expected || ruxtajma_count(answer) != q->count)
         routes_differ("another answer than expected", q, size, answer, answer);
     if (memcmp(first_room, q->pairs, 2 * q->count) != 0)
         routes_differ("other pairs than expected", q, size, answer, answer);
@@ -130,24 +134,22 @@ static void again(struct rng *r, const struct route_query *q, size_t size,
 static void other_rooms(struct rng *r, const struct route_query *q,
                         uint64_t answer, struct query_tally *t)
 {
-    uint32_t length = 2 * (uint32_t)answer;
-    uint64_t too_small = (uint64_t)19 << 32;
+    uint32_t length = 2 * (uint32_t)ruxtajma_count(answer);
 
-    if (length > 0) {
-        again(r, q, length - 1, too_small, t);
-        if (rng_chance(r, 50))
-            again(r, q, rng_chance(r, 50) ? 0 : rng_below(r, length), too_small, t);
-    }
+    if (length > 0)
+        again(r, q, length - 1, 19, t);
+    if (length > 0 && rng_chance(r, 50))
+        again(r, q, rng_chance(r, 50) ? 0 : rng_below(r, length), 19, t);
     again(r, q, length, answer, t);
 }
 
 static void count_routes(struct query_tally *t, uint64_t answer)
 {
-    uint32_t pairs = (uint32_t)answer;
+    size_t pairs = ruxtajma_count(answer);
 
     t->routes++;
-    t->route_answered[answer >> 32]++;
-    if (answer >> 32 == 0)
+    t->route_answered[ruxtajma_refusal(answer)]++;
+    if (ruxtajma_refusal(answer) == 0)
         t->pairs[pairs < 2 ? pairs : pairs <= 10 ? 2 : pairs <= 255 ? 3 : 4]++;
 }
 
@@ -159,69 +161,70 @@ void compare_routes(struct rng *r, const struct route_query *q,
 
     test_known(q, large, answer);
     count_routes(t, answer);
-    if (answer >> 32 == 0)
+    if (ruxtajma_refusal(answer) == 0)
         other_rooms(r, q, answer, t);
     else if (rng_chance(r, 30))   /* the room decides nothing */
         again(r, q, rng_chance(r, 50) ? 0 : rng_below(r, 300), answer, t);
+}
+
+void route_in_every_room(struct rng *r, const struct route_query *q, size_t most,
+                         struct query_tally *t)
+{
+    for (size_t size = 0; size <= most; size++)
+        again(r, q, size,
+              size < 2 * q->count ? 19 : (uint64_t)q->count << 16, t);
 }
 
 /* ---- addresses ---- */
 
 static _Noreturn void addresses_differ(const char *what,
                                        const struct address_query *q,
-                                       uint32_t plain, uint32_t ours)
+                                       uint64_t plain, uint64_t ours)
 {
     char text[240];
 
     snprintf(text, sizeof text, "%s, address %llX of kind %u on bus %u, answers "
-             "%X and %X, expected %llX", what, (unsigned long long)q->address,
-             q->kind, q->bus, (unsigned)plain, (unsigned)ours,
+             "%llX and %llX, expected %llX", what, (unsigned long long)q->address,
+             q->kind, q->bus, (unsigned long long)plain, (unsigned long long)ours,
              (unsigned long long)q->expected);
-    fail(text, plain & 255, ours & 255, q->expected < 0 ? -1 : q->expected & 255);
-}
-
-static uint32_t value_of(uint32_t answer)
-{
-    return answer >> 8 & 255;
-}
-
-static uint32_t links_of(uint32_t answer)
-{
-    return answer >> 16;
+    fail(text, ruxtajma_refusal(plain), ruxtajma_refusal(ours),
+         q->expected < 0 ? -1 : q->expected & 255);
 }
 
 /* A number alone; or one of three, and "at most the listed buses less one". */
-static bool right_form(uint32_t answer)
+static bool right_form(uint64_t answer)
 {
-    uint32_t number = answer & 255;
+    unsigned number = ruxtajma_refusal(answer);
 
     if (number != 0)
         return answer == number && (number == 24 || (number >= 5 && number <= 18));
-    return value_of(answer) <= 2 && links_of(answer) < asked.buses.n;
+    return sound_form(answer) && ruxtajma_seen(answer) <= RUXTAJMA_UNDECLARED
+        && ruxtajma_links(answer) < asked.buses.n;
 }
 
-static void count_address(struct query_tally *t, uint32_t answer)
+static void count_address(struct query_tally *t, uint64_t answer)
 {
-    uint32_t links = links_of(answer);
+    unsigned links = ruxtajma_links(answer);
 
+    count_call(ruxtajma_refusal(answer));
     t->addresses++;
-    t->address_answered[answer & 255]++;
-    if ((answer & 255) != 0)
+    t->address_answered[ruxtajma_refusal(answer)]++;
+    if (ruxtajma_refusal(answer) != 0)
         return;
-    t->values[value_of(answer)]++;
+    t->values[ruxtajma_seen(answer)]++;
     t->links[links < 2 ? links : links <= 10 ? 2 : links < 255 ? 3 : 4]++;
 }
 
 void compare_address(const struct address_query *q, struct query_tally *t)
 {
-    uint32_t plain = plain_address(table.place, table.n, q->bus, q->kind,
+    uint64_t plain = plain_address(table.place, table.n, q->bus, q->kind,
                                    q->address);
-    uint32_t ours = ruxtajma_address(table.place, table.n, q->bus, q->kind,
+    uint64_t ours = ruxtajma_address(table.place, table.n, q->bus, q->kind,
                                      q->address);
 
     if (plain != ours)
         addresses_differ("different answers", q, plain, ours);
-    if (q->expected >= 0 && plain != q->expected)
+    if (q->expected >= 0 && plain != (uint64_t)q->expected)
         addresses_differ("another answer than expected", q, plain, ours);
     if (!right_form(plain))
         addresses_differ("no such answer", q, plain, ours);

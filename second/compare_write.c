@@ -6,9 +6,11 @@
 #include "comparing.h"
 
 #include "arena.h"
+#include "calls.h"
 #include "judge.h"
-#include "library.h"
+#include "ours.h"
 #include "room.h"
+#include "ruxtajma.h"
 #include "write.h"
 
 #include <stdio.h>
@@ -80,8 +82,8 @@ static _Noreturn void differ(const char *what, const struct parts_case *c,
     snprintf(text, sizeof text, "%s, parts of %zu and %zu, names of %zu and %zu, "
              "room of %zu, %u and %u bytes written", what, c->base_length,
              c->ext_length, c->oem_length, c->product_length, size,
-             (unsigned)(uint32_t)plain, (unsigned)(uint32_t)ours);
-    fail(text, (long long)(plain >> 32), (long long)(ours >> 32), expected);
+             (unsigned)ruxtajma_count(plain), (unsigned)ruxtajma_count(ours));
+    fail(text, ruxtajma_refusal(plain), ruxtajma_refusal(ours), expected);
 }
 
 static size_t image_length(const struct parts_case *c)
@@ -110,15 +112,15 @@ static bool all_zero(const uint8_t *p, size_t n)
 static bool allowed(const struct parts_case *c, const struct lent *l,
                     uint64_t answer)
 {
-    uint32_t number = (uint32_t)(answer >> 32);
+    unsigned number = ruxtajma_refusal(answer);
     uint32_t early = unwritten(c, l->size);
     size_t length = image_length(c);
 
     if (early != 0)
-        return answer == (uint64_t)early << 32 && stands(l, 0);
+        return answer == early && stands(l, 0);
     if (number == 0)
-        return answer == length && stands(l, length);
-    return (uint32_t)answer == 0 && number >= 10 && number <= 18
+        return answer == (uint64_t)length << 16 && stands(l, length);
+    return answer == number && number >= 10 && number <= 18
         && all_zero(l->room, length) && stands(l, length);
 }
 
@@ -133,10 +135,10 @@ static uint64_t call(writer *write, const char *wrong, const struct parts_case *
     return answer;
 }
 
-/* Both into one room; answers what both agree on. */
-static uint64_t write_both(struct rng *r, const struct parts_case *c,
-                           const struct places *at, size_t size,
-                           struct write_tally *t)
+/* Both into a room of a size, and the answer it must have. */
+static void write_both(struct rng *r, const struct parts_case *c,
+                       const struct places *at, size_t size, uint64_t answer,
+                       struct write_tally *t)
 {
     struct lent l = lend(r, size);
     uint64_t plain, ours;
@@ -149,70 +151,94 @@ static uint64_t write_both(struct rng *r, const struct parts_case *c,
         differ("different answers", c, size, plain, ours, c->expected);
     if (memcmp(first_room, l.room, size) != 0)
         differ("different bytes", c, size, plain, ours, c->expected);
+    if (plain != answer)
+        differ("another answer in another room", c, size, plain, ours,
+               (int)ruxtajma_refusal(answer));
+    count_call(ruxtajma_refusal(plain));
     t->rooms++;
-    t->too_small += plain >> 32 == 19;
-    return plain;
+    t->too_small += plain == 19;
 }
 
-/* One more room of a size, and the answer it must have. */
-static void again(struct rng *r, const struct parts_case *c,
-                  const struct places *at, size_t size, uint64_t answer,
-                  struct write_tally *t)
-{
-    uint64_t now = write_both(r, c, at, size, t);
-
-    if (now != answer)
-        differ("another answer in another room", c, size, now, now,
-               (int)(answer >> 32));
-}
-
-/* Rooms around the image's length; 19 where it is longer, judged or not. */
-static void other_rooms(struct rng *r, const struct parts_case *c,
-                        const struct places *at, uint64_t answer,
-                        struct write_tally *t)
+/*
+ * Exactly enough, one too few, and one more room; 19 where it is too small,
+ * whatever the judge would say.
+ */
+static void rooms(struct rng *r, const struct parts_case *c,
+                  const struct places *at, uint64_t answer, struct write_tally *t)
 {
     uint32_t length = (uint32_t)image_length(c);
-    uint64_t too_small = (uint64_t)19 << 32;
+    uint32_t roll = rng_below(r, 100);
 
-    again(r, c, at, 0, too_small, t);
-    again(r, c, at, length - 1, too_small, t);
-    again(r, c, at, rng_below(r, length), too_small, t);
-    again(r, c, at, length, answer, t);
-    again(r, c, at, length + 1 + rng_below(r, 300), answer, t);
+    write_both(r, c, at, length - 1, 19, t);
+    if (roll < 20)
+        write_both(r, c, at, 0, 19, t);
+    else if (roll < 50)
+        write_both(r, c, at, rng_below(r, length), 19, t);
+    else if (roll < 90)
+        write_both(r, c, at, length + 1 + rng_below(r, 300), answer, t);
+    else
+        write_both(r, c, at, 2 * PART_LIMIT + rng_below(r, 4096), answer, t);
+    write_both(r, c, at, length, answer, t);
 }
 
 static void count(struct write_tally *t, const struct parts_case *c,
-                  uint32_t number)
+                  unsigned number)
 {
     t->cases++;
     t->answered[number]++;
     t->over_13 += number == 13 && c->ext_length > PART_LIMIT;
+    note_lengths(HEADER + c->base_length, c->ext_length);
 }
 
-void compare_parts(struct rng *r, const struct parts_case *c, struct write_tally *t)
+static void begin_parts(const struct parts_case *c)
 {
-    size_t large = 2 * PART_LIMIT + rng_below(r, 4096);
-    struct places at = lend_parts(r, c);
-
     begin_case(c->label, c->base, c->base_length);
     add_to_case(c->ext, c->ext_length);
     add_to_case(c->header, HEADER);
     add_to_case(c->oem, c->oem_length);
     add_to_case(c->product, c->product_length);
-    uint64_t answer = write_both(r, c, &at, large, t);
-    uint32_t number = (uint32_t)(answer >> 32);
+}
 
-    if (c->expected >= 0 && number != (uint32_t)c->expected)
-        differ("another answer than expected", c, large, answer, answer,
+/* What the plain writer says of the parts in a large room. */
+static uint64_t answer_of(const struct parts_case *c, const struct places *at)
+{
+    struct lent l = { .room = first_room, .size = sizeof first_room };
+
+    return by_plain(c, at, &l);
+}
+
+/* The table in first_room taken apart: the parts come out again. */
+static void apart_again(struct rng *r, const struct parts_case *c)
+{
+    static uint8_t image[2 * PART_LIMIT];
+
+    memcpy(image, first_room, image_length(c));
+    if (compare_apart(r, "written, to be taken apart", image, image_length(c)) != 0)
+        fail("a written table is not taken apart", -1, -1, 0);
+}
+
+void compare_parts(struct rng *r, const struct parts_case *c, struct write_tally *t)
+{
+    struct places at = lend_parts(r, c);
+
+    begin_parts(c);
+    uint64_t answer = answer_of(c, &at);
+    unsigned number = ruxtajma_refusal(answer);
+
+    if (c->expected >= 0 && number != (unsigned)c->expected)
+        differ("another answer than expected", c, sizeof first_room, answer, answer,
                c->expected);
     if (c->expected == 0 && memcmp(first_room, c->image, image_length(c)) != 0)
-        differ("another image than expected", c, large, answer, answer, 0);
+        differ("another image than expected", c, sizeof first_room, answer, answer,
+               0);
     count(t, c, number);
-
-    if (unwritten(c, large) == 0)
-        other_rooms(r, c, &at, answer, t);
+    if (unwritten(c, sizeof first_room) == 0)
+        rooms(r, c, &at, answer, t);
     else   /* the room decides nothing */
-        again(r, c, &at, rng_chance(r, 50) ? 0 : rng_below(r, 9000), answer, t);
+        write_both(r, c, &at, rng_below(r, rng_chance(r, 90) ? 100 : 9000), answer,
+                   t);
+    if (number == 0 && rng_chance(r, 50))
+        apart_again(r, c);
 }
 
 void compare_rewritten(struct rng *r, const struct test_case *table,
@@ -225,7 +251,7 @@ void compare_rewritten(struct rng *r, const struct test_case *table,
     parts_of(table->bytes, table->size, &c);
     c.label = table->label;
     c.expected = -1;
-    if (plain_judge(table->bytes, table->size) == 0) {
+    if (compare_apart(r, c.label, table->bytes, table->size) == 0) {
         c.expected = 0;
         t->rewritten++;
     }
@@ -258,9 +284,10 @@ static void the_board(struct rng *r, struct write_tally *t)
     memset(the_parts.name, ' ', sizeof the_parts.name);
     fixed(r, t, "bench board", 0);
     struct places at = lend_parts(r, &the_parts);
+    begin_parts(&the_parts);
     for (size_t size = 0; size <= board.size + 20; size++)
-        again(r, &the_parts, &at, size,
-              size < board.size ? (uint64_t)19 << 32 : board.size, t);
+        write_both(r, &the_parts, &at, size,
+                   size < board.size ? 19 : (uint64_t)board.size << 16, t);
     for (size_t oem = 0; oem <= OEM_ID + 2; oem++)
         for (size_t product = 0; product <= PRODUCT + 2; product++) {
             finish_parts(&the_parts, "names of every length", 0, oem, product);
@@ -300,7 +327,7 @@ static void limits(struct rng *r, struct write_tally *t)
 /* Lengths that would be small ones in 16 bits. */
 static void wrapped_lengths(struct rng *r, struct write_tally *t)
 {
-    static const size_t longer[] = { 65536 - HEADER, 65536, 131072, 200000 };
+    static const size_t longer[] = { 65536 - HEADER, 65536, SLICE_MAX };
 
     for (size_t i = 0; i < sizeof longer / sizeof longer[0]; i++)
         for (int extended = 0; extended < 2; extended++) {
@@ -314,6 +341,8 @@ static void wrapped_lengths(struct rng *r, struct write_tally *t)
                 memcpy(much, the_parts.b.base, the_parts.b.base_len);
                 the_parts.base = much;
                 the_parts.base_length = longer[i] + the_parts.b.base_len;
+                if (the_parts.base_length > SLICE_MAX)
+                    the_parts.base_length = SLICE_MAX;
             }
             compare_parts(r, &the_parts, t);
         }

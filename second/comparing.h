@@ -8,14 +8,29 @@
 #include "queries.h"
 #include "random.h"
 
+/* In a thorough run the fixed cases have every value, else edges and some. */
+extern bool thorough;
+
+/* No inner number but at 23, and no values at a refusal. */
+static inline bool sound_form(uint64_t answer)
+{
+    uint64_t number = answer & 255;
+
+    return number == 0 ? (answer >> 8 & 255) == 0 : answer == number;
+}
+
 /* Judges one table by both; answers the number both agree on. */
-uint8_t compare_table(const char *label, const uint8_t *bytes, size_t n,
-                      int expected);
+uint8_t compare_table(struct rng *r, const char *label, const uint8_t *bytes,
+                      size_t n, int expected);
 
 /* The bench board cut at each byte, circles of buses, and others like these. */
 void fixed_tables(struct rng *r);
 
-/* How the listing calls of a run ended. */
+/* The same of a table taken apart; all values must be the same. */
+unsigned compare_apart(struct rng *r, const char *label, const uint8_t *bytes,
+                       size_t n);
+
+/* How the reading and listing calls of a run ended. */
 struct tally {
     unsigned long long listed, defaults;   /* dumps */
     unsigned long long refused[19];        /* dumps, by number */
@@ -24,8 +39,11 @@ struct tally {
     size_t longest;                        /* bytes of a listing */
 };
 
-/* Lists one dump by both into rooms of several sizes, and counts the answer. */
+/* Reads one dump by both, lists it into rooms of several sizes, and counts. */
 void compare_dump(struct rng *r, const struct dump_case *d, struct tally *t);
+
+/* Lists one that holds a listing into every room up to one with two bytes over. */
+void list_in_every_room(struct rng *r, const struct dump_case *d, struct tally *t);
 
 /* The bench board's eight lines, boundaries of every rule, and others. */
 void fixed_dumps(struct rng *r, struct tally *t);
@@ -88,11 +106,27 @@ void compare_routes(struct rng *r, const struct route_query *q,
                     struct query_tally *t);
 void compare_address(const struct address_query *q, struct query_tally *t);
 
+/* The same question in every room from 0 bytes to so many. */
+void route_in_every_room(struct rng *r, const struct route_query *q, size_t most,
+                         struct query_tally *t);
+
 /* Questions of both kinds about a table of any kind. */
 void compare_queries(struct rng *r, const struct test_case *c,
                      struct query_tally *t);
 
-/* The bench board, every address of both lists, long climbs, and others. */
+/* The bench board, addresses of both lists, long climbs, and others. */
 void fixed_queries(struct rng *r, struct query_tally *t);
+
+/* How the entries at places of a run came out. */
+struct entry_tally {
+    unsigned long long buffers, places, whole, walks;
+};
+
+/* Entries at many places of one buffer by both, and walks over it. */
+void compare_entries(struct rng *r, const struct test_case *c,
+                     struct entry_tally *t);
+
+/* Every place of the bench board, wrong lengths, whole walks, and others. */
+void fixed_entries(struct rng *r, struct entry_tally *t);
 
 #endif

@@ -33,8 +33,10 @@ static bool comes_before(const struct draft *d, uint32_t number, uint32_t at)
 /* A good pointer, with an address or a revision that would change the answer. */
 static void put_good(struct rng *r, uint8_t *p)
 {
-    put_pointer(p, rng_chance(r, 50) ? 0 : (uint32_t)rng_next(r),
-                (uint8_t)rng_below(r, 9), rng_byte(r));
+    uint32_t address = rng_chance(r, 50) ? 0 : (uint32_t)rng_next(r);
+    uint8_t feature = (uint8_t)rng_below(r, 9), imcr = rng_byte(r);
+
+    put_pointer(p, address, feature, imcr);
     if (rng_chance(r, 30))
         p[9] = rng_byte(r);
     mend_pointer(p);

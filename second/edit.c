@@ -22,12 +22,12 @@ static void exchange(uint8_t *t, size_t at, const uint8_t *old,
     memcpy(t + at, new, size);
 }
 
-uint32_t plain_edit(uint8_t *t, size_t n, size_t place,
+uint64_t plain_edit(uint8_t *t, size_t n, size_t place,
                     const uint8_t *stated, size_t stated_length,
                     const uint8_t *wanted, size_t wanted_length)
 {
     struct table walked;
-    uint32_t refusal;
+    uint64_t refusal;
 
     /* "Edits test the table, then 20 to 23" */
     if ((refusal = plain_judge_walk(t, n, &walked)) != 0)

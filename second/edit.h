@@ -13,7 +13,7 @@
  * of the edited table.  At a refusal every byte is as it was; what lies past
  * the table always is.  Nothing may overlap or be NULL.
  */
-uint32_t plain_edit(uint8_t *t, size_t n, size_t place,
+uint64_t plain_edit(uint8_t *t, size_t n, size_t place,
                     const uint8_t *stated, size_t stated_length,
                     const uint8_t *wanted, size_t wanted_length);
 

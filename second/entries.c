@@ -50,6 +50,16 @@ uint8_t *next_of(struct builder *b, uint8_t type, const uint8_t *behind)
     return NULL;
 }
 
+bool has_all_types(struct builder *b)
+{
+    static const uint8_t type[] = { 0, 1, 2, 3, 4, 128, 129, 130 };
+
+    for (size_t i = 0; i < sizeof type; i++)
+        if (next_of(b, type[i], NULL) == NULL)
+            return false;
+    return true;
+}
+
 bool any(const uint8_t *e) { (void)e; return true; }
 
 uint8_t *pick_other(struct rng *r, struct builder *b, uint8_t type,

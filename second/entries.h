@@ -37,6 +37,9 @@ uint8_t *next_of(struct builder *b, uint8_t type, const uint8_t *behind);
 #define EACH(b, type, e) \
     for (uint8_t *e = next_of(b, type, NULL); e != NULL; e = next_of(b, type, e))
 
+/* Whether entries of all types 0 to 4 and 128 to 130 stand in it. */
+bool has_all_types(struct builder *b);
+
 /* A random entry of a type that suits; or NULL. */
 uint8_t *pick(struct rng *r, struct builder *b, uint8_t type, want *suits);
 

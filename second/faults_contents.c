@@ -36,10 +36,10 @@ static bool nine_regions(struct rng *r, struct draft *d)
 static bool bad_kind(struct rng *r, struct draft *d)
 {
     static const uint8_t kinds[4] = { 0, 5, 6, 255 };
+    uint8_t kind = kinds[rng_below(r, 4)];
 
     /* Not the pointer's: its kind is needed for nothing else to be wrong. */
-    return one_more(r, d, kinds[rng_below(r, 4)], 0xD0000000u,
-                    rng_below(r, 40)) != NULL;
+    return one_more(r, d, kind, 0xD0000000u, rng_below(r, 40)) != NULL;
 }
 
 static bool odd_base(struct rng *r, struct draft *d)

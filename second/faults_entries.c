@@ -31,6 +31,14 @@ static bool f14_no_processor(struct rng *r, struct builder *b)
     return true;
 }
 
+static bool f14_no_entries(struct rng *r, struct builder *b)
+{
+    (void)r;
+    b->base_len = 0;
+    b->count = 0;
+    return true;
+}
+
 static bool f14_no_bootstrap(struct rng *r, struct builder *b)
 {
     uint8_t *e = pick(r, b, 0, bootstrap);
@@ -309,6 +317,7 @@ static bool f17_input(struct rng *r, struct builder *b)
 const struct fault entry_faults[] = {
     { 14, "local APIC address", f14_local_apic, NULL },
     { 14, "no processor", f14_no_processor, NULL },
+    { 14, "no entries, a base of 44", f14_no_entries, NULL },
     { 14, "no bootstrap", f14_no_bootstrap, NULL },
     { 14, "bootstrap disabled", f14_bootstrap_off, NULL },
     { 14, "bootstrap bit on a disabled one only", f14_bootstrap_moved_off, NULL },

@@ -57,6 +57,7 @@ static void the_board(struct rng *r, struct tally *t)
 {
     board_in(3, 0xF0000);
     check(r, t, "bench board", 0, board_listing);
+    list_in_every_room(r, &out, t);
     size_t n = out.c.size;
 
     for (size_t i = 0; i < n; i++) {

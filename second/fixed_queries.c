@@ -75,7 +75,7 @@ static void check_answer(struct query_tally *t, uint8_t bus, uint8_t kind,
 static void check_address(struct query_tally *t, uint8_t bus, uint8_t kind,
                           uint64_t address, uint32_t value, uint32_t links)
 {
-    check_answer(t, bus, kind, address, links << 16 | value << 8);
+    check_answer(t, bus, kind, address, links << 24 | value << 16);
 }
 
 /* ---- the bench board ---- */
@@ -88,21 +88,21 @@ static void the_board(struct rng *r, struct query_tally *t)
     check_pairs(r, t, question(false, INT, 0, 1), PAIRS("\2\1"));
     check_pairs(r, t, question(false, INT, 0, 2), PAIRS(""));
     check_pairs(r, t, question(true, EXTINT, 0, 0), PAIRS("\0\0"));
-    for (unsigned irq = 0; irq < 256; irq++)
+    for (unsigned irq = 0; irq < 256; irq += thorough || irq < 3 ? 1 : 11)
         for (uint8_t type = 0; type < 4; type++) {
             bool io = type == INT && irq == 1, local = type == EXTINT && irq == 0;
             check_pairs(r, t, question(false, type, 0, (uint8_t)irq), NULL, io);
             check_pairs(r, t, question(true, type, 0, (uint8_t)irq), NULL, local);
         }
-    for (unsigned i = 0; i < 256; i++) {
+    for (unsigned i = 0; i < 256; i += thorough || i < 8 || i > 240 ? 1 : 9) {
         for (int local = 0; local < 2; local++) {
             if (i > 3)
                 check_no_routes(r, t, question(local, (uint8_t)i, 0, 1), 24);
             if (i > 0)
                 check_no_routes(r, t, question(local, INT, (uint8_t)i, 1), 24);
         }
-        check_answer(t, 0, (uint8_t)i, 0, i > 2 ? 24 : UNDECLARED << 8);
-        check_answer(t, (uint8_t)i, 0, 0, i > 0 ? 24 : UNDECLARED << 8);
+        check_answer(t, 0, (uint8_t)i, 0, i > 2 ? 24 : UNDECLARED << 16);
+        check_answer(t, (uint8_t)i, 0, 0, i > 0 ? 24 : UNDECLARED << 16);
     }
     for (size_t n = board.size; n-- > 0; ) {
         board.size = n;
@@ -149,6 +149,7 @@ static void io_side(struct rng *r, struct query_tally *t)
                 PAIRS("\x9\x14\x3\x14\x7\x14" "\x9\x16" "\x3\x17" "\x3\x17"
                       "\x9\x0\x3\x0\x7\x0"));
     check_pairs(r, t, question(false, INT, 0, 2), PAIRS("\x9\xFF\x3\xFF\x7\xFF"));
+    route_in_every_room(r, question(false, INT, 0, 2), 10, t);
     check_pairs(r, t, question(false, INT, 0, 3), PAIRS(""));
     check_pairs(r, t, question(false, NMI, 0, 1), PAIRS("\7\1"));
     check_pairs(r, t, question(false, INT, 255, 1), PAIRS("\7\0"));
@@ -175,6 +176,7 @@ static void local_side(struct rng *r, struct query_tally *t)
     ask_sound(r, "processors on and off");
     check_pairs(r, t, question(true, NMI, 0, 0),
                 PAIRS("\x5\x1\x2\x1\xFE\x1" "\x5\x0"));
+    route_in_every_room(r, question(true, NMI, 0, 0), 10, t);
     check_pairs(r, t, question(true, SMI, 0, 0), PAIRS("\5\1"));
     check_pairs(r, t, question(false, NMI, 0, 0), PAIRS("\1\x9"));
 }
@@ -210,7 +212,36 @@ static void in_order(struct rng *r, struct query_tally *t)
 
 /* ---- addresses ---- */
 
-/* P8 to P10, and every other address of both lists, added and taken away. */
+/* An address on buses that have either list, added and taken away. */
+static void check_lists(struct query_tally *t, uint32_t at)
+{
+    uint32_t low = at % 1024;
+    bool isa = at < 65536 && low >= 0x100;
+    bool vga = isa && ((low >= 0x3B0 && low <= 0x3BB)
+                       || (low >= 0x3C0 && low <= 0x3DF));
+
+    check_address(t, 1, 0, at, isa ? YES : NO, 0);
+    check_address(t, 2, 0, at, vga ? YES : NO, 0);
+    check_address(t, 3, 0, at, isa ? NO : YES, 0);
+    check_address(t, 4, 0, at, vga ? NO : YES, 0);
+}
+
+/* Each of the 1,024 low parts with some high one, and all edges near 65,536. */
+static void check_some(struct rng *r, struct query_tally *t)
+{
+    static const uint16_t edge[] = {
+        0, 0xFF, 0x100, 0x3AF, 0x3B0, 0x3BB, 0x3BC, 0x3BF, 0x3C0, 0x3DF, 0x3E0,
+        0x3FF,
+    };
+
+    for (uint32_t low = 0; low < 1024; low++)
+        check_lists(t, low + 1024 * rng_below(r, 66));
+    for (uint32_t high = 0; high < 66; high += high == 1 ? 61 : 1)
+        for (size_t i = 0; i < sizeof edge / sizeof edge[0]; i++)
+            check_lists(t, edge[i] + 1024 * high);
+}
+
+/* P8 to P10, and other addresses: in a thorough run, all of both lists. */
 static void both_lists(struct rng *r, struct query_tally *t)
 {
     small_board(&b);
@@ -229,17 +260,9 @@ static void both_lists(struct rng *r, struct query_tally *t)
     check_address(t, 2, 0, 0x3BC, NO, 0);
     check_address(t, 1, 0, 0x10100, NO, 0);
     check_address(t, 2, 0, 0x103B0, NO, 0);
-    for (uint32_t at = 0; at < 0x10800; at++) {
-        uint32_t low = at % 1024;
-        bool isa = at < 65536 && low >= 0x100;
-        bool vga = isa && ((low >= 0x3B0 && low <= 0x3BB)
-                           || (low >= 0x3C0 && low <= 0x3DF));
-
-        check_address(t, 1, 0, at, isa ? YES : NO, 0);
-        check_address(t, 2, 0, at, vga ? YES : NO, 0);
-        check_address(t, 3, 0, at, isa ? NO : YES, 0);
-        check_address(t, 4, 0, at, vga ? NO : YES, 0);
-    }
+    check_some(r, t);
+    for (uint32_t at = 0; thorough && at < 0x10800; at++)
+        check_lists(t, at);
     check_address(t, 1, 0, 0x100000100u, NO, 0);
     check_address(t, 3, 0, 0x100000100u, NO, 0);
 }
@@ -255,6 +278,8 @@ static void modifiers(struct rng *r, struct query_tally *t)
     add_modifier(&b, 1, 0, 0);
     add_modifier(&b, 1, 1, 1);
     add_modifier(&b, 1, 0, 1);
+    add_unknown(&b, 131, 8, 0);
+    b.ext[b.ext_len - 6] = 2;   /* as if it added list 0 to bus 2 */
     ask_sound(r, "modifiers");
     for (uint8_t kind = 1; kind < 3; kind++) {
         check_address(t, 0, kind, 0x100, NO, 0);

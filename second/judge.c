@@ -330,7 +330,7 @@ uint8_t plain_judge_walk(const uint8_t *bytes, size_t n, struct table *t)
     return 0;
 }
 
-uint8_t plain_judge(const uint8_t *bytes, size_t n)
+uint64_t plain_judge(const uint8_t *bytes, size_t n)
 {
     struct table walked;
 

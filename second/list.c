@@ -3,6 +3,7 @@
  * line has a function that says how wide it is and one that writes it.
  */
 #include "list.h"
+#include "answer.h"
 #include "dump.h"
 #include "judge.h"
 
@@ -310,16 +311,11 @@ static void write_all(uint8_t *p, const struct found *f, const struct table *t)
     PUT(p, "end\n");
 }
 
-static uint64_t refused(uint32_t number)
-{
-    return (uint64_t)number << 32;
-}
-
 static uint64_t list_default(const struct found *f, uint8_t *room, size_t size)
 {
     if (size < WIDTH("default 0 imcr 0\n"))
         return refused(19);
-    return (uint64_t)(put_default(room, f) - room);
+    return counted((size_t)(put_default(room, f) - room));
 }
 
 uint64_t plain_list(const uint8_t *dump, size_t n, uint8_t *room, size_t size)
@@ -340,5 +336,5 @@ uint64_t plain_list(const uint8_t *dump, size_t n, uint8_t *room, size_t size)
     if (length > size)
         return refused(19);
     write_all(room, &f, &t);
-    return length;
+    return counted(length);
 }

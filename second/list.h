@@ -7,7 +7,7 @@
 
 /*
  * Lists a dump of n bytes into a room.  Answers how many bytes it wrote there,
- * or the refusal number in the upper 32 bits; then nothing was written.  What
+ * from bit 16 on, or the refusal number; then nothing was written.  What
  * lies past the listing stays.  The two may not overlap; each may be NULL if
  * its length is 0.
  */

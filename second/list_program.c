@@ -3,6 +3,7 @@
  * output.  Exit 0 where one of these was written, 2 where that failed.
  */
 #include "list.h"
+#include "ruxtajma.h"
 
 #include <stdio.h>
 
@@ -16,16 +17,16 @@ int main(void)
 {
     size_t n = fread(dump, 1, sizeof dump, stdin);
     uint64_t answer = plain_list(dump, n, room, sizeof room);
-    size_t length = (uint32_t)answer;
+    unsigned refusal = ruxtajma_refusal(answer);
 
     if (ferror(stdin)) {
         perror("list: standard input");
         return 2;
     }
-    if (answer >> 32 != 0)
-        printf("refused %u\n", (unsigned)(answer >> 32));
+    if (refusal != 0)
+        printf("refused %u\n", refusal);
     else
-        fwrite(room, 1, length, stdout);
+        fwrite(room, 1, ruxtajma_count(answer), stdout);
     if (fflush(stdout) != 0 || ferror(stdout)) {
         perror("list: standard output");
         return 2;

@@ -1,19 +1,27 @@
 /*
- * measure [ROUNDS]: ns per call of the plain program (-O2 and -O3) and of the
- * library, judging, listing, editing, writing and asking, all in one process, the
- * three taking turns.
+ * measure [-r] [ROUNDS]: ns per call of the library and of the plain program (-O2
+ * and -O3), all in one process, the three taking turns.  With -r no times are
+ * printed, just their ratios.
  */
 #define _GNU_SOURCE
 
 #include "subjects.h"
 
+#include "../include/ruxtajma.h"
+
 #include <stdio.h>
 #include <stdlib.h>
+#include <string.h>
 #include <time.h>
 
-enum { ROUNDS_MAX = 1001, SLICE_NS = 2000000 };
+enum { ROUNDS_MAX = 1001, SLICE_NS = 2000000, LABEL = 80 };
+
+/* The goal is a ratio of 1.0 or less; over this limit a row is named. */
+static const double LIMIT = 1.5;
 
 static volatile uint64_t sink;
+
+/* ---- timing ---- */
 
 /* This thread's own time: others use the machine too. */
 static double now_ns(void)
@@ -36,7 +44,7 @@ static double run(int program, struct subject *s, uint32_t calls)
 
 static uint32_t calibrate(int program, struct subject *s)
 {
-    uint32_t calls = 16;
+    uint32_t calls = 1;
 
     for (;;) {
         double t = run(program, s, calls);
@@ -53,107 +61,183 @@ static int by_size(const void *a, const void *b)
     return (x > y) - (x < y);
 }
 
-static void measure(struct subject *s, int rounds)
+static double median(const double *values, int n)
 {
-    static double t[PROGRAMS][ROUNDS_MAX], ratio[ROUNDS_MAX];
-    uint32_t calls[PROGRAMS];
+    static double sorted[ROUNDS_MAX];
 
-    for (int j = 0; j < PROGRAMS; j++)
-        calls[j] = calibrate(j, s);
+    memcpy(sorted, values, (size_t)n * sizeof *values);
+    qsort(sorted, (size_t)n, sizeof *values, by_size);
+    return sorted[n / 2];
+}
+
+static double median_ratio(const double *above, const double *below, int n)
+{
+    static double ratio[ROUNDS_MAX];
+
+    for (int i = 0; i < n; i++)
+        ratio[i] = above[i] / below[i];
+    return median(ratio, n);
+}
+
+/* All that is divided by each other later is timed in the same rounds. */
+static double times[2][PROGRAMS][ROUNDS_MAX];
+
+static void time_rounds(struct subject *s, size_t halves, int rounds)
+{
+    uint32_t calls[2][PROGRAMS];
+
+    for (size_t h = 0; h < halves; h++)
+        for (int j = 0; j < PROGRAMS; j++)
+            calls[h][j] = calibrate(j, &s[h]);
     for (int i = 0; i < rounds; i++)
         for (int k = 0; k < PROGRAMS; k++) {
             int j = (i + k) % PROGRAMS;   /* no one always comes first */
-            t[j][i] = run(j, s, calls[j]) / calls[j];
+
+            for (size_t h = 0; h < halves; h++)
+                times[h][j][i] = run(j, &s[h], calls[h][j]) / calls[h][j];
         }
+}
+
+/* A subject, and the half of it where there is one. */
+static void measure(struct subject *s, int rounds)
+{
+    time_rounds(s, s->full ? 2 : 1, rounds);
     for (int j = 0; j < PROGRAMS; j++) {
-        for (int i = 0; i < rounds; i++)
-            ratio[i] = t[OURS][i] / t[j][i];
-        qsort(ratio, (size_t)rounds, sizeof ratio[0], by_size);
-        s->paired[j] = ratio[rounds / 2];
-    }
-    for (int j = 0; j < PROGRAMS; j++) {
-        qsort(t[j], (size_t)rounds, sizeof t[j][0], by_size);
-        s->median[j] = t[j][rounds / 2];
-        s->least[j] = t[j][0];
+        s->time[j] = median(times[0][j], rounds);
+        s->ratio[j] = median_ratio(times[0][OURS], times[0][j], rounds);
+        if (s->full)
+            s->growth[j] = median_ratio(times[0][j], times[1][j], rounds);
     }
 }
 
-static const struct {
-    const char *title, *subject, *column, *word;
-} works[WORKS] = {
-    [JUDGE] = { "judging tables", "table", "", "judge" },
-    [LIST] = { "listing dumps", "dump", "listed", "list" },
-    [EDIT_MIDDLE] = { "an edit in the middle", "table", "place", "edit middle" },
-    [EDIT_LAST] = { "an edit at the last place", "table", "place", "edit last" },
-    [EDIT_REFUSED] = { "an edit there, refused with 23", "table", "place", "edit 23" },
-    [WRITE] = { "writing tables", "table", "made", "write" },
-    [ROUTES] = { "I/O routes", "table", "pairs", "routes" },
-    [ADDRESS] = { "an address on a bus", "table", "links", "address" },
+/* ---- printing: tables as README.md has them ---- */
+
+static const char *const works[WORKS] = {
+    [JUDGE] = "judge", [READ] = "read a dump", [LIST] = "list",
+    [LIST_FITTING] = "list, room just fits", [EDIT] = "edit",
+    [EDIT_REFUSED] = "edit refused with 23", [WRITE] = "write",
+    [ROUTES] = "route", [ADDRESS] = "address", [IO_ADDRESS] = "I/O address",
+    [WALK] = "walk the entries",
 };
 
-/* What stands in the third column. */
-static unsigned shown(const struct subject *s)
+/* What is done, to what; and how much the answer of a query holds. */
+static const char *label(const struct subject *s)
 {
-    switch (s->work) {
-    case LIST: case WRITE: case ROUTES: return (unsigned)(uint32_t)s->answer;
-    case ADDRESS: return (unsigned)(s->answer >> 16);
-    default: return (unsigned)s->place;
-    }
+    static char text[LABEL];
+    int n = snprintf(text, sizeof text, "%s: %s", works[s->work], s->name);
+
+    if (s->work == ROUTES)
+        snprintf(text + n, sizeof text - (size_t)n, ", pairs %zu",
+                 ruxtajma_count(s->answer));
+    if (s->work == ADDRESS || s->work == IO_ADDRESS)
+        snprintf(text + n, sizeof text - (size_t)n, ", links %u",
+                 ruxtajma_links(s->answer));
+    return text;
 }
 
-static void print_against(enum work work, int plain, const char *flags)
+static void print_ns(double ns)
 {
-    printf("\nns per call, ours against plain %s: %s\n", flags, works[work].title);
-    printf("%-22s %6s %6s | %9s %9s | %9s %9s | %7s %7s %7s\n",
-           works[work].subject, "bytes", works[work].column, "ours med", "min",
-           "plain med", "min", "o/p med", "o/p min", "paired");
+    unsigned n = (unsigned)(ns + 0.5);
+
+    if (n < 1000)
+        printf(" %7u |", n);
+    else
+        printf(" %3u,%03u |", n / 1000, n % 1000);
+}
+
+/* A half has no row: it is in the growth. */
+static bool has_row(size_t i)
+{
+    return i == 0 || !subjects[i - 1].full;
+}
+
+static void print_rows(bool ratios_only)
+{
+    if (ratios_only)
+        printf("| %-65s | to -O2 | to -O3 |\n|---|---|---|\n",
+               "Our time as a multiple of the second program's");
+    else
+        printf("| %-65s |    ours | second -O2 | ratio | second -O3 | ratio |\n"
+               "|---|---|---|---|---|---|\n", "Nanoseconds a call");
     for (size_t i = 0; i < subject_count; i++) {
         const struct subject *s = &subjects[i];
 
-        if (s->work != work)
+        if (!has_row(i))
             continue;
-        printf("%-22s %6zu %6u | %9.1f %9.1f | %9.1f %9.1f | %7.2f %7.2f %7.2f\n",
-               s->name, s->size, shown(s),
-               s->median[OURS], s->least[OURS], s->median[plain], s->least[plain],
-               s->median[OURS] / s->median[plain],
-               s->least[OURS] / s->least[plain], s->paired[plain]);
+        printf("| %-65s |", label(s));
+        if (ratios_only) {
+            printf("   %4.2f |   %4.2f |\n", s->ratio[PLAIN_O2],
+                   s->ratio[PLAIN_O3]);
+            continue;
+        }
+        print_ns(s->time[OURS]);
+        for (int j = PLAIN_O2; j <= PLAIN_O3; j++) {
+            printf("   ");
+            print_ns(s->time[j]);
+            printf("  %4.2f |", s->ratio[j]);
+        }
+        printf("\n");
     }
 }
 
 static void print_growth(void)
 {
-    printf("\ngrowth, full / half (medians; minima in brackets)\n");
-    printf("%-11s %-22s %14s %14s %14s\n", "", "", "ours", "plain -O2",
-           "plain -O3");
-    for (size_t i = 0; i + 1 < subject_count; i++) {
-        const struct subject *f = &subjects[i], *h = &subjects[i + 1];
+    printf("\n| %-65s | ours | second -O2 | second -O3 |\n|---|---|---|---|\n",
+           "How many times as long as for half of it");
+    for (size_t i = 0; i < subject_count; i++)
+        if (subjects[i].full) {
+            const double *g = subjects[i].growth;
 
-        if (!f->full)
+            printf("| %-65s | %4.2f |       %4.2f |       %4.2f |\n",
+                   label(&subjects[i]), g[OURS], g[PLAIN_O2], g[PLAIN_O3]);
+        }
+}
+
+/* The rows over the limit, then the highest ratio. */
+static void print_verdict(int program, const char *name)
+{
+    const struct subject *highest = &subjects[0];
+    bool over = false;
+
+    for (size_t i = 0; i < subject_count; i++) {
+        const struct subject *s = &subjects[i];
+        double ratio = s->ratio[program];
+
+        if (!has_row(i))
             continue;
-        printf("%-11s %-22s", works[f->work].word, f->name);
-        for (int j = 0; j < PROGRAMS; j++)
-            printf("  %5.2f (%5.2f)", f->median[j] / h->median[j],
-                   f->least[j] / h->least[j]);
-        printf("\n");
+        if (ratio > highest->ratio[program])
+            highest = s;
+        if (ratio > LIMIT) {
+            printf("over %.1f times %s: %.2f, %s\n", LIMIT, name, ratio, label(s));
+            over = true;
+        }
     }
+    if (!over)
+        printf("over %.1f times %s: none\n", LIMIT, name);
+    printf("highest ratio to %s: %.2f, %s\n", name, highest->ratio[program],
+           label(highest));
 }
 
 int main(int argc, char **argv)
 {
-    int rounds = argc > 1 ? atoi(argv[1]) : 41;
+    bool ratios_only = argc > 1 && strcmp(argv[1], "-r") == 0;
+    int at = ratios_only ? 2 : 1;
+    int rounds = argc > at ? atoi(argv[at]) : 41;
 
     if (rounds < 1 || rounds > ROUNDS_MAX) {
-        fprintf(stderr, "usage: measure [ROUNDS up to %d]\n", ROUNDS_MAX);
+        fprintf(stderr, "measure: 1 to %d rounds\n", ROUNDS_MAX);
         return 2;
     }
     make_subjects();
     for (size_t i = 0; i < subject_count; i++)
-        measure(&subjects[i], rounds);
-    printf("%d rounds of about 2 ms each, the programs taking turns\n", rounds);
-    for (enum work work = 0; work < WORKS; work++) {
-        print_against(work, PLAIN_O2, "-O2");
-        print_against(work, PLAIN_O3, "-O3");
-    }
+        if (has_row(i))
+            measure(&subjects[i], rounds);
+    printf("%d rounds, the programs taking turns of about 2 ms.  Times are medians;"
+           " ratios are\nthe medians of the rounds' own.\n\n", rounds);
+    print_rows(ratios_only);
     print_growth();
+    printf("\n");
+    print_verdict(PLAIN_O2, "-O2");
+    print_verdict(PLAIN_O3, "-O3");
     return 0;
 }

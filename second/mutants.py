@@ -1,14 +1,15 @@
 #!/usr/bin/env python3
-"""Tests compare itself: each mutant of judge.c, dump.c, list.c, write.c, edit.c or
-query.c stands in for the library and must be found.  mutants.py [COUNT [SOURCE...]],
-as in "mutants.py 20000 write edit"; exit 1 if one survives."""
-import os, subprocess, sys, tempfile
+"""Tests compare itself: each mutant of a source of the plain program stands in for the
+proved one and must be found: linked in the library's place or, for answers.c, over the
+pipe.  mutants.py [COUNT [SOURCE...]], as in "mutants.py 7000 write edit"; exit 1 if one
+survives."""
+import concurrent.futures, os, subprocess, sys, tempfile
 
 sys.dont_write_bytecode = True   # nothing is left beside the sources
-import mutants_edits, mutants_listing, mutants_query
+import mutants_edits, mutants_listing, mutants_query, mutants_reading
 
 HERE = os.path.dirname(os.path.abspath(__file__))
-COUNT = sys.argv[1] if len(sys.argv) > 1 else "20000"
+COUNT = sys.argv[1] if len(sys.argv) > 1 else "7000"
 
 # rule, what is wrong, old text (must occur once), new text
 JUDGE = [
@@ -136,19 +137,24 @@ JUDGE = [
 # Equal to the original: the next entry would start at the length byte, and its
 # value 1 is a type under 128, or one byte is left; 13 either way.  And a dump
 # that lacks its last byte does not end with the last body; 1 either way.
-EQUAL = {(13, "length 1 allowed"), (1, "body cut by one")} | mutants_query.EQUAL
+EQUAL = {(13, "length 1 allowed"), (1, "body cut by one")} | mutants_query.EQUAL | mutants_reading.EQUAL
 
 SOURCES = {"judge": JUDGE, "dump": mutants_listing.DUMP, "list": mutants_listing.LIST,
            "write": mutants_edits.WRITE, "edit": mutants_edits.EDIT, "names": mutants_edits.NAMES,
-           "query": mutants_query.QUERY}
-PROGRAMS = {"measure", "subjects", "boards", "list_program"}   # not part of compare
+           "query": mutants_query.QUERY, "entry": mutants_reading.ENTRY, "read": mutants_reading.READ,
+           "apart": mutants_reading.APART}
+PIPED = {"answers": mutants_reading.ANSWERS}
+PLAIN = ["judge", "dump", "list", "write", "edit", "query", "entry", "read", "apart"]
+PROGRAMS = {"measure", "subjects", "boards", "list_program", "answers"}   # not part of compare
 
 # The stand-in is the plain program once more, under the library's names.
 RENAMED = ["-Dplain_judge=ruxtajma_judge", "-Dplain_list=ruxtajma_list", "-Dplain_edit=ruxtajma_edit",
            "-Dplain_judge_walk=mutant_judge_walk", "-Dplain_find=mutant_find",
            "-Dplain_write=mutant_write", "-Dplain_parts=mutant_parts",
            "-Dplain_io_routes=ruxtajma_io_routes", "-Dplain_local_routes=ruxtajma_local_routes",
-           "-Dplain_address=ruxtajma_address"]
+           "-Dplain_address=ruxtajma_address", "-Dplain_entry=ruxtajma_entry",
+           "-Dplain_read=ruxtajma_read", "-Dplain_addresses=ruxtajma_addresses",
+           "-Dplain_take_apart=mutant_take_apart"]
 
 def text_of(name):
     """The source of a part of the stand-in; "names" is one that it has alone."""
@@ -161,45 +167,66 @@ def run(cmd, cwd):
     return subprocess.run(cmd, cwd=cwd, capture_output=True, text=True)
 
 def compile(source, to, tmp, *flags):
-    r = run(["cc", "-std=c11", "-O2", "-w", f"-I{HERE}", *flags, "-c", source, "-o", to], tmp)
+    r = run(["cc", "-std=c11", "-O2", "-w", f"-I{HERE}", f"-I{HERE}/../include", *flags, "-c", source, "-o", to], tmp)
     assert r.returncode == 0, (source, r.stderr)
 
-def compile_text(text, to, tmp):
-    with open(f"{tmp}/mutant.c", "w") as f:
+def compile_text(text, stem, tmp, *flags):
+    with open(f"{tmp}/{stem}.c", "w") as f:
         f.write(text)
-    compile("mutant.c", to, tmp, *RENAMED)
+    compile(f"{stem}.c", f"{stem}.o", tmp, *flags)
 
-def outcome(parts, mutated, text, tmp):
-    """What compare says of a library with one source replaced by the text."""
-    compile_text(text, "mutant.o", tmp)
-    others = [f"library_{name}.o" for name in SOURCES if name != mutated]
-    r = run(["cc", *(f"{f}.o" for f in parts), "mutant.o", *others, "-o", "compare"], tmp)
+def link(objects, to, tmp):
+    r = run(["cc", *(f"{o}.o" for o in objects), "-o", to], tmp)
     assert r.returncode == 0, r.stderr
-    return run(["./compare", COUNT, "3"], tmp)
+
+def outcome(parts, name, text, stem, tmp):
+    """What compare says where the text stands in for the source of that name."""
+    here = f"{tmp}/{stem}.d"   # where it may leave the failed case
+    os.mkdir(here)
+    if name in PIPED:
+        compile_text(text, stem, tmp)
+        link([*PLAIN, stem], f"{stem}.d/answers", tmp)
+        return run([f"{tmp}/over_pipe", COUNT, "3", "./answers"], here)
+    compile_text(text, stem, tmp, *RENAMED)
+    others = [f"library_{other}" for other in SOURCES if other != name]
+    link([*parts, "linked", stem, *others], f"{stem}.d/compare", tmp)
+    return run(["./compare", COUNT, "3"], here)
+
+def test(job, parts, tmp):
+    number, name, rule, what, text = job
+    r = outcome(parts, name, text, f"mutant_{number}", tmp)
+    caught = r.returncode == 1
+    words = (r.stderr.strip() or r.stdout.strip().splitlines()[-1]) if caught else "no difference"
+    print(f"{name} {rule:3} {what}: {'found' if caught else 'NOT FOUND'}: {words[:150]}", flush=True)
+    return name, rule, what, caught
+
+def jobs():
+    """First each source as it is, in which nothing is found; then its mutants."""
+    all_of = {**SOURCES, **PIPED}
+    for name in sys.argv[2:] or all_of:
+        source = text_of(name)
+        yield name, 0, "as it is", source
+        for rule, what, old, new in all_of[name]:
+            assert source.count(old) == 1, (name, rule, what, source.count(old))
+            yield name, rule, what, source.replace(old, new)
 
 def main():
-    found, missed, total = {}, [], 0
-    with tempfile.TemporaryDirectory() as tmp:
+    with tempfile.TemporaryDirectory() as tmp, concurrent.futures.ThreadPoolExecutor(os.cpu_count()) as pool:
         parts = [f[:-2] for f in os.listdir(HERE) if f.endswith(".c") and f[:-2] not in PROGRAMS]
         for f in parts:
             compile(f"{HERE}/{f}.c", f"{f}.o", tmp)
+        parts = [f for f in parts if f not in ("remote", "request", "linked")]
+        link([*parts, "remote", "request"], "over_pipe", tmp)
         for name in SOURCES:
-            compile_text(text_of(name), f"library_{name}.o", tmp)
-        for name in sys.argv[2:] or SOURCES:
-            source = text_of(name)
-            for rule, what, old, new in SOURCES[name]:
-                assert source.count(old) == 1, (name, rule, what, source.count(old))
-                r = outcome(parts, name, source.replace(old, new), tmp)
-                caught = r.returncode == 1
-                total += 1
-                if caught:
-                    found[name] = found.get(name, 0) + 1
-                if caught == ((rule, what) in EQUAL):
-                    missed.append((name, rule, what))
-                words = r.stderr.strip() or "no difference"
-                print(f"{name} {rule:3} {what}: {'found' if caught else 'NOT FOUND'}: {words[:150]}", flush=True)
-    print(f"{sum(found.values())} of {total} found;",
-          ", ".join(f"{k}.c: {v}" for k, v in found.items()))
+            compile_text(text_of(name), f"library_{name}", tmp, *RENAMED)
+        numbered = [(number, *job) for number, job in enumerate(jobs())]
+        results = list(pool.map(lambda job: test(job, parts, tmp), numbered))
+    idle = EQUAL | {(0, "as it is")}
+    found = [(name, rule, what) for name, rule, what, caught in results if caught]
+    missed = [(name, rule, what) for name, rule, what, caught in results if caught == ((rule, what) in idle)]
+    mutants = sum(what != "as it is" for _, _, what, _ in results)
+    by_source = {name: sum(f[0] == name for f in found) for name in sorted({f[0] for f in found})}
+    print(f"{len(found)} of {mutants} found;", ", ".join(f"{name}: {n}" for name, n in by_source.items()))
     if missed:
         print("not as foreseen:", missed)
     return 1 if missed else 0

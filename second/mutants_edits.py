@@ -1,9 +1,9 @@
 """Mistakes to put into write.c and edit.c; see mutants.py.
 Rule, what is wrong, old text (must occur once), new text."""
 
-# The library's own face of the writer, where the names have any length.
-NAMES_SOURCE = """#include "library.h"
-#include "write.h"
+# The library's own face: names of any length, and a table taken apart by its length.
+NAMES_SOURCE = """#include "apart.h"
+#include "ruxtajma.h"
 #include <string.h>
 
 static size_t least(size_t a, size_t b) { return a < b ? a : b; }
@@ -26,6 +26,12 @@ uint64_t ruxtajma_write(const uint8_t *oem, size_t oem_length,
     f.local_apic = apic;
     f.reserved = reserved;
     return plain_write(&f, base, base_length, extended, extended_length, room, room_length);
+}
+
+uint64_t ruxtajma_parts(const uint8_t *table, size_t length)
+{
+    struct parts p;
+    return plain_take_apart(table, length, &p);
 }
 """
 
@@ -64,11 +70,11 @@ WRITE = [
  (0, "zeroes the base only", "memset(room, 0, length);", "memset(room, 0, base_end);"),
  (0, "zeroes the whole room", "memset(room, 0, length);", "memset(room, 0, size);"),
  (0, "leaves the refused image", "        memset(room, 0, length);\n", ""),
- (0, "clears what lies past", "    return length;\n", "    memset(room + length, 0, size - length);\n    return length;\n"),
- (0, "writes before the room", "    return length;\n", "    room[-1] = 0;\n    return length;\n"),
- (0, "not judged", "uint8_t refusal = plain_judge(room, length);", "uint8_t refusal = 0;"),
- (0, "answers the base length", "    return length;\n", "    return base_end;\n"),
- (0, "answers bytes at a refusal", "        return refused(refusal);", "        return refused(refusal) | length;"),
+ (0, "clears what lies past", "    return counted(length);\n", "    memset(room + length, 0, size - length);\n    return counted(length);\n"),
+ (0, "writes before the room", "    return counted(length);\n", "    room[-1] = 0;\n    return counted(length);\n"),
+ (0, "not judged", "uint8_t refusal = (uint8_t)plain_judge(room, length);", "uint8_t refusal = 0;"),
+ (0, "answers the base length", "    return counted(length);\n", "    return counted(base_end);\n"),
+ (0, "answers bytes at a refusal", "        return refused(refusal);", "        return refused(refusal) | counted(length);"),
  (0, "judge's number for 19", "        return refused(refusal);", "        return refused(refusal == 18 ? 19 : refusal);"),
  (0, "revision 1", "t[6] = 4;", "t[6] = 1;"),
  (0, "count as if all had 8 bytes", "count_entries(base, base_length)", "(uint32_t)base_length / 8"),

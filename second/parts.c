@@ -142,11 +142,13 @@ static void edge_parts(struct rng *r, struct parts_case *c)
 
     sound_table(r, b);
     uint32_t which = rng_below(r, 3);   /* base, extended, both */
-    if (which != 1)
+    if (which != 1 && rng_chance(r, 15))
+        b->base_len = 0;
+    else if (which != 1)
         stretch_base(r, b, PART_LIMIT - HEADER - 2 + rng_below(r, 5));
     if (which != 0)
         stretch_ext(r, b, PART_LIMIT - 2 + rng_below(r, 5));
-    finish_any(r, c, "lengths around 4,096", by_length(b));
+    finish_any(r, c, "lengths of 44 and around 4,096", by_length(b));
 }
 
 /* Random bytes; or such that a walk comes further. */
@@ -181,12 +183,12 @@ void gen_parts(struct rng *r, struct parts_case *c)
 {
     uint32_t roll = rng_below(r, 100);
 
-    if (roll < 45) {
+    if (roll < 47) {
         sound_table(r, &c->b);
         finish_any(r, c, "sound parts", 0);
-    } else if (roll < 80) {
+    } else if (roll < 78) {
         fault_parts(r, c);
-    } else if (roll < 90) {
+    } else if (roll < 91) {
         edge_parts(r, c);
     } else {
         random_parts(r, c);

@@ -109,14 +109,9 @@ static bool predefined(uint32_t list, uint64_t address)
     return false;
 }
 
-static uint64_t number_at(const uint8_t *e)
-{
-    return get_le(e, 4) | (uint64_t)get_le(e + 4, 4) << 32;
-}
-
 static bool covers(const uint8_t *e, uint8_t kind, uint64_t address)
 {
-    uint64_t base = number_at(e + 4), length = number_at(e + 12);
+    uint64_t base = get_long(e + 4), length = get_long(e + 12);
 
     return e[3] == kind && address >= base && address - base < length;
 }
@@ -163,16 +158,16 @@ static bool declared(const struct asked *a, uint8_t bus)
 static uint32_t answer_of(const struct asked *a, const struct address_query *q,
                           uint8_t bus, uint32_t links)
 {
-    enum { NO = 0, YES = 0x100, UNDECLARED = 0x200 };
+    enum { NO = 0, YES = 1 << 16, UNDECLARED = 2 << 16 };
     uint8_t parent;
 
     if (modified(a, q, bus, 1))
-        return links << 16 | NO;
+        return links << 24 | NO;
     if (covered(a, q, bus) || modified(a, q, bus, 0))
-        return links << 16 | YES;
+        return links << 24 | YES;
     if (subtractive(a, bus, &parent))
         return answer_of(a, q, parent, links + 1);
-    return links << 16 | (declared(a, bus) ? NO : UNDECLARED);
+    return links << 24 | (declared(a, bus) ? NO : UNDECLARED);
 }
 
 void expect_address(struct asked *a, struct address_query *q)
@@ -227,7 +222,7 @@ void gen_route_query(struct rng *r, struct asked *a, struct route_query *q)
 /* An address at, beside or in one of the table's ranges. */
 static uint64_t range_address(struct rng *r, const uint8_t *mapping)
 {
-    uint64_t base = number_at(mapping + 4), length = number_at(mapping + 12);
+    uint64_t base = get_long(mapping + 4), length = get_long(mapping + 12);
 
     switch (rng_below(r, 6)) {
     case 0: return base;

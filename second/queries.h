@@ -29,7 +29,7 @@ struct route_query {
 struct address_query {
     uint8_t bus, kind;
     uint64_t address;
-    int64_t expected;          /* as plain_address() answers, or -1 */
+    int64_t expected;          /* as ruxtajma_address() answers, or -1 */
 };
 
 /* A table of any kind, mostly one that has much to say. */

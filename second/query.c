@@ -4,6 +4,7 @@
  * the entries concerned, and for routes one more that writes.
  */
 #include "query.h"
+#include "answer.h"
 #include "judge.h"
 #include "set.h"
 
@@ -105,11 +106,6 @@ static void put_pairs(const struct table *t, const struct side *side,
     }
 }
 
-static uint64_t refused(uint32_t number)
-{
-    return (uint64_t)number << 32;
-}
-
 static uint64_t routes(const uint8_t *bytes, size_t n, const struct side *side,
                        const struct source *from, uint8_t *room, size_t size)
 {
@@ -133,7 +129,7 @@ static uint64_t routes(const uint8_t *bytes, size_t n, const struct side *side,
 
     if (count > 0)
         put_pairs(&t, side, from, &to, room);
-    return count;
+    return counted(count);
 }
 
 uint64_t plain_io_routes(const uint8_t *t, size_t n, uint8_t type, uint8_t bus,
@@ -220,15 +216,15 @@ static void gather_modifiers(const struct table *t, const struct question *q,
     }
 }
 
-static uint32_t answer(uint32_t value, uint32_t links)
+static uint64_t answer(uint64_t value, uint64_t links)
 {
-    return links << 16 | value << 8;
+    return links << 24 | value << 16;
 }
 
 /* "First that applies"; parents are in no circle (18), so the climb ends. */
-static uint32_t climb(const struct claims *c, uint8_t bus)
+static uint64_t climb(const struct claims *c, uint8_t bus)
 {
-    for (uint32_t links = 0; ; links++) {
+    for (uint64_t links = 0; ; links++) {
         if (in(&c->taken, bus))
             return answer(NO, links);
         if (in(&c->held, bus))
@@ -239,7 +235,7 @@ static uint32_t climb(const struct claims *c, uint8_t bus)
     }
 }
 
-uint32_t plain_address(const uint8_t *bytes, size_t n, uint8_t bus, uint8_t kind,
+uint64_t plain_address(const uint8_t *bytes, size_t n, uint8_t bus, uint8_t kind,
                        uint64_t address)
 {
     struct question q = { kind, address };

@@ -149,10 +149,11 @@ static void finish(struct rng *r, const struct builder *b, const char *label,
 void rich_case(struct rng *r, struct test_case *c)
 {
     struct builder b;
+    bool all = rng_chance(r, 50);
 
-    do   /* one with something to ask */
+    do   /* one with something to ask, or with all there is */
         sound_table(r, &b);
-    while (pick_interrupt(r, &b) == NULL);
+    while (all ? !has_all_types(&b) : pick_interrupt(r, &b) == NULL);
     switch_off(r, &b, 0);
     switch_off(r, &b, 2);
     rich_interrupts(r, &b, 3, 2);

@@ -1,12 +1,9 @@
-/* The tables and dumps that measure uses.  All programs must agree on each. */
+/* The tables and dumps that are measured.  All programs must agree on each. */
 #include "subjects.h"
 
+#include "../include/ruxtajma.h"
 #include "boards.h"
-#include "edit.h"
-#include "judge.h"
-#include "library.h"
-#include "list.h"
-#include "query.h"
+#include "timed.h"
 
 #include <stdio.h>
 #include <stdlib.h>
@@ -18,296 +15,173 @@ size_t subject_count;
 static uint8_t room[1 << 17];
 static struct builder b;
 
-struct kind {
-    const char *name;
-    make_board *make;
-    bool often;   /* listed, edited and written too */
-};
-
-static const struct kind kinds[] = {
-    { "a mixed", make_mixed, true },
-    { "b interrupts+mappings", make_interrupts, true },
-    { "c processors", make_processors, false },
-    { "d chain of buses", make_chain, false },
-    { "e I/O APICs", make_io_apics, false },
-    { "f unknown of length 2", make_unknowns, true },
-};
-
-/* Those that are asked. */
-static const struct kind asked_kinds[] = {
-    { "a mixed", make_mixed, false },
-    { "g one source, 2 on", make_few_targets, false },
-    { "h one source, all on", make_many_targets, false },
-    { "i climb", make_climb, false },
-};
-
-enum {
-    KINDS = sizeof kinds / sizeof kinds[0],
-    ASKED_KINDS = sizeof asked_kinds / sizeof asked_kinds[0]
-};
-
 /* ---- calls ---- */
 
-static uint64_t judge_by(int program, const struct subject *s)
+static uint64_t library_write(const struct fields *f,
+                              const uint8_t *base, size_t base_length,
+                              const uint8_t *ext, size_t ext_length,
+                              uint8_t *to, size_t size)
 {
-    switch (program) {
-    case OURS: return ruxtajma_judge(s->bytes, s->size);
-    case PLAIN_O2: return plain_judge(s->bytes, s->size);
-    default: return plain_judge_o3(s->bytes, s->size);
-    }
+    return ruxtajma_write(f->oem_id, sizeof f->oem_id,
+                          f->product, sizeof f->product, f->oem_pointer,
+                          f->oem_size, f->local_apic, f->reserved,
+                          base, base_length, ext, ext_length, to, size);
 }
 
-static uint64_t list_by(int program, const struct subject *s)
-{
-    switch (program) {
-    case OURS: return ruxtajma_list(s->bytes, s->size, room, sizeof room);
-    case PLAIN_O2: return plain_list(s->bytes, s->size, room, sizeof room);
-    default: return plain_list_o3(s->bytes, s->size, room, sizeof room);
-    }
-}
+static const struct calls library_calls = {
+    .judge = ruxtajma_judge,
+    .read = ruxtajma_read,
+    .list = ruxtajma_list,
+    .edit = ruxtajma_edit,
+    .write = library_write,
+    .io_routes = ruxtajma_io_routes,
+    .address = ruxtajma_address,
+    .entry = ruxtajma_entry,
+};
 
-static uint64_t edit_by(int program, struct subject *s)
-{
-    const uint8_t *stated = s->entry[s->turn], *wanted = s->entry[!s->turn];
-    size_t n = s->entry_size;
-    uint32_t answer;
+static const struct calls *const programs[PROGRAMS] = {
+    [OURS] = &library_calls,
+    [PLAIN_O2] = &plain_calls,
+    [PLAIN_O3] = &plain_calls_o3,
+};
 
-    switch (program) {
-    case OURS:
-        answer = ruxtajma_edit(s->bytes, s->size, s->place, stated, n, wanted, n);
-        break;
-    case PLAIN_O2:
-        answer = plain_edit(s->bytes, s->size, s->place, stated, n, wanted, n);
-        break;
-    default:
-        answer = plain_edit_o3(s->bytes, s->size, s->place, stated, n, wanted, n);
-    }
-    s->turn ^= answer == 0;
+static uint64_t edit_by(const struct calls *c, struct subject *s)
+{
+    uint64_t answer = c->edit(s->bytes, s->size, s->place,
+                              s->entry[s->turn], s->entry_size,
+                              s->entry[!s->turn], s->entry_size);
+
+    s->turn ^= ruxtajma_refusal(answer) == 0;
     return answer;
 }
 
-static uint64_t write_by(int program, const struct subject *s)
+static uint64_t write_by(const struct calls *c, const struct subject *s)
 {
-    const struct fields *f = &s->parts.fields;
-    const uint8_t *base = s->bytes + HEADER, *ext = s->bytes + s->parts.base_end;
-    size_t base_n = s->parts.base_end - HEADER;
-    size_t ext_n = s->parts.ext_end - s->parts.base_end;
-
-    switch (program) {
-    case OURS:
-        return ruxtajma_write(f->oem_id, sizeof f->oem_id,
-                              f->product, sizeof f->product, f->oem_pointer,
-                              f->oem_size, f->local_apic, f->reserved,
-                              base, base_n, ext, ext_n, room, sizeof room);
-    case PLAIN_O2:
-        return plain_write(f, base, base_n, ext, ext_n, room, sizeof room);
-    default:
-        return plain_write_o3(f, base, base_n, ext, ext_n, room, sizeof room);
-    }
+    return c->write(&s->fields, s->bytes + HEADER, s->base_end - HEADER,
+                    s->bytes + s->base_end, s->size - s->base_end,
+                    room, sizeof room);
 }
 
-static uint64_t routes_by(int program, const struct subject *s)
+/* Answers where the last entry ends. */
+static uint64_t walk_by(const struct calls *c, const struct subject *s)
 {
-    switch (program) {
-    case OURS:
-        return ruxtajma_io_routes(s->bytes, s->size, s->type, s->bus, s->irq, room,
-                                  sizeof room);
-    case PLAIN_O2:
-        return plain_io_routes(s->bytes, s->size, s->type, s->bus, s->irq, room,
-                               sizeof room);
-    default:
-        return plain_io_routes_o3(s->bytes, s->size, s->type, s->bus, s->irq, room,
-                                  sizeof room);
-    }
-}
+    size_t at = HEADER, length;
 
-static uint64_t address_by(int program, const struct subject *s)
-{
-    switch (program) {
-    case OURS:
-        return ruxtajma_address(s->bytes, s->size, s->bus, s->kind, s->address);
-    case PLAIN_O2:
-        return plain_address(s->bytes, s->size, s->bus, s->kind, s->address);
-    default:
-        return plain_address_o3(s->bytes, s->size, s->bus, s->kind, s->address);
-    }
+    while ((length = ruxtajma_count(c->entry(s->bytes, s->size, at))) != 0)
+        at += length;
+    return (uint64_t)at << 16;
 }
 
 uint64_t call_program(int program, struct subject *s)
 {
+    const struct calls *c = programs[program];
+
     switch (s->work) {
-    case JUDGE: return judge_by(program, s);
-    case LIST: return list_by(program, s);
-    case WRITE: return write_by(program, s);
-    case ROUTES: return routes_by(program, s);
-    case ADDRESS: return address_by(program, s);
-    default: return edit_by(program, s);
+    case JUDGE: return c->judge(s->bytes, s->size);
+    case READ: return c->read(s->bytes, s->size);
+    case WRITE: return write_by(c, s);
+    case WALK: return walk_by(c, s);
+    case LIST: case LIST_FITTING:
+        return c->list(s->bytes, s->size, room, s->room);
+    case ROUTES:
+        return c->io_routes(s->bytes, s->size, s->type, s->bus, s->irq, room,
+                            sizeof room);
+    case ADDRESS: case IO_ADDRESS:
+        return c->address(s->bytes, s->size, s->bus, s->kind, s->address);
+    default: return edit_by(c, s);
     }
 }
 
-/* ---- subjects ---- */
+/* ---- boards ---- */
 
-static struct subject *next(const char *name, enum work work, bool full)
-{
-    struct subject *s = &subjects[subject_count++];
+#define BIT(work) (1u << (work))
 
-    s->name = name;
-    s->work = work;
-    s->full = full;
-    return s;
-}
+struct board {
+    const char *name;
+    make_board *make;
+    bool halved;             /* 4,096 + 4,096 bytes, and once more half of them */
+    size_t dump;             /* so long, and once more half; 0 as needed */
+    enum pointer pointer;
+    unsigned works;
+};
 
-/* The refusal in an answer, with the inner number of 23; or 0. */
-static uint64_t refusal_in(enum work work, uint64_t answer)
-{
-    switch (work) {
-    case LIST: case WRITE: case ROUTES: return answer >> 32;
-    case ADDRESS: return answer & 255;
-    default: return answer;
-    }
-}
+enum {
+    EVERY = BIT(WORKS) - 1,
+    OFTEN = BIT(JUDGE) | BIT(LIST) | BIT(LIST_FITTING) | BIT(EDIT) | BIT(WRITE)
+};
 
-/* All are accepted, or refused for the reason meant, and by all alike. */
-static void check(struct subject *s, uint32_t refusal)
-{
-    s->answer = call_program(PLAIN_O2, s);
-    for (int j = 0; j < PROGRAMS; j++) {
-        uint64_t answer = call_program(j, s);
+static const struct board boards[] = {
+    { "bench board", make_bench, false, 0, FIRST, EVERY },
+    { "a typical board, 42 entries", make_typical, false, 0, FIRST, EVERY },
+    { "full table, all entry types", make_mixed, true, 0, FIRST, EVERY },
+    { "full table, interrupts and mappings", make_interrupts, true, 0, FIRST,
+      OFTEN },
+    { "full table, unknown types of length 2", make_unknowns, true, 0, FIRST,
+      OFTEN },
+    { "full table, 201 processors", make_processors, true, 0, FIRST, BIT(JUDGE) },
+    { "full table, 254 I/O APICs", make_io_apics, true, 0, FIRST, BIT(JUDGE) },
+    { "full table, a chain of 256 buses", make_chain, true, 0, FIRST,
+      BIT(JUDGE) | BIT(ADDRESS) },
+    { "253 entries to all of 250 I/O APICs, two on", make_few_targets, true, 0,
+      FIRST, BIT(ROUTES) },
+    { "the same, all on", make_many_targets, true, 0, FIRST, BIT(ROUTES) },
+    { "65,536 bytes, pointer in the last paragraph", make_typical, false,
+      SUBJECT_ROOM, LAST, BIT(READ) | BIT(LIST) | BIT(LIST_FITTING) },
+    { "65,536 bytes, no pointer", make_typical, false, SUBJECT_ROOM, NOWHERE,
+      BIT(READ) | BIT(LIST) },
+};
 
-        if (answer != s->answer || refusal_in(s->work, answer) != refusal) {
-            fprintf(stderr, "%s, %zu bytes: program %d answers %llX\n", s->name,
-                    s->size, j, (unsigned long long)answer);
-            exit(1);
-        }
-    }
-}
-
-static void fill_board(const struct kind *k, uint32_t part)
+static void fill(const struct board *k, uint32_t part)
 {
     size_t goal = PART_LIMIT / part;
 
     builder_start(&b, 0xFEE00000u);
     k->make(&b, goal, part);
-    if (HEADER + b.base_len != goal || b.ext_len != goal) {
+    if (k->halved && (HEADER + b.base_len != goal || b.ext_len != goal)) {
         fprintf(stderr, "%s: %zu + %zu bytes, not %zu\n", k->name,
                 HEADER + b.base_len, b.ext_len, goal);
         exit(1);
     }
 }
 
-static void fill_bench_board(void)
+/* ---- what is asked of the board in b ---- */
+
+static size_t entry_length(const uint8_t *entry)
 {
-    uint8_t board[HEADER + 52];
-
-    bench_board(board);
-    unseal(&b, board);
-}
-
-static void fill_typical(void)
-{
-    builder_start(&b, 0xFEE00000u);
-    make_typical(&b);
-}
-
-/* The board in b, as a table. */
-static void judged(const char *name, bool full)
-{
-    struct subject *s = next(name, JUDGE, full);
-
-    s->size = seal(&b, s->bytes);
-    check(s, 0);
-}
-
-static void judged_tables(void)
-{
-    fill_bench_board();
-    judged("bench board", false);
-    for (size_t k = 0; k < KINDS; k++)
-        for (uint32_t part = 1; part <= 2; part++) {
-            fill_board(&kinds[k], part);
-            judged(kinds[k].name, part == 1);
-        }
-}
-
-/* Makes a subject of the board in b. */
-typedef void make_subject(const char *name, bool full, enum work work);
-
-static void each_board(make_subject *make, enum work work)
-{
-    fill_bench_board();
-    make("bench board", false, work);
-    fill_typical();
-    make("typical, 40 entries", false, work);
-    for (size_t k = 0; k < KINDS; k++)
-        for (uint32_t part = 1; kinds[k].often && part <= 2; part++) {
-            fill_board(&kinds[k], part);
-            make(kinds[k].name, part == 1, work);
-        }
-}
-
-static void listed(const char *name, bool full, enum work work)
-{
-    struct subject *s = next(name, work, full);
-
-    s->size = dump_around(&b, 0, false, s->bytes);
-    check(s, 0);
-}
-
-/* The typical board in a large region, its pointer found last or not at all. */
-static void large_dumps(void)
-{
-    struct subject *s;
-
-    fill_typical();
-    for (uint32_t part = 1; part <= 2; part++) {
-        s = next("typical, pointer last", LIST, part == 1);
-        s->size = dump_around(&b, SUBJECT_ROOM / part, true, s->bytes);
-        check(s, 0);
-    }
-    for (uint32_t part = 1; part <= 2; part++) {
-        s = next("no pointer: refused 2", LIST, part == 1);
-        s->size = dump_around(&b, SUBJECT_ROOM / part, false, s->bytes);
-        memset(s->bytes + 10, 0, 16);
-        check(s, 2);
-    }
-}
-
-/* A byte that decides nothing: a version, or an interrupt's IRQ. */
-static size_t free_byte(const uint8_t *entry)
-{
-    return entry[0] == 3 || entry[0] == 4 ? 5 : 2;
+    return entry[0] == 0 ? 20 : 8;
 }
 
 /*
- * No bus stands in the middle or last, and the last is an interrupt: its type 4
- * is refused with 17.
+ * The last entry, an interrupt on every board: its IRQ decides nothing, and its
+ * type 4 is refused with 17.
  */
-static void edited(const char *name, bool full, enum work work)
+static void ask_edit(struct subject *s)
 {
-    struct subject *s = next(name, work, full);
     size_t at = 0;
 
-    s->size = seal(&b, s->bytes);
-    s->place = work == EDIT_MIDDLE ? b.count / 2 : b.count - 1;
+    s->place = b.count - 1;
     for (size_t i = 0; i < s->place; i++)
-        at += b.base[at] == 0 ? 20 : 8;
-    s->entry_size = b.base[at] == 0 ? 20 : 8;
+        at += entry_length(b.base + at);
+    s->entry_size = entry_length(b.base + at);
     memcpy(s->entry[0], b.base + at, s->entry_size);
     memcpy(s->entry[1], b.base + at, s->entry_size);
-    if (work == EDIT_REFUSED)
+    if (s->work == EDIT_REFUSED)
         s->entry[1][1] = 4;
     else
-        s->entry[1][free_byte(s->entry[1])] ^= 1;
-    check(s, work == EDIT_REFUSED ? 23 | 17 << 8 : 0);
+        s->entry[1][5] ^= 1;
 }
 
-static void written(const char *name, bool full, enum work work)
+static void ask_write(struct subject *s)
 {
-    struct subject *s = next(name, work, full);
+    struct fields *f = &s->fields;
 
-    s->size = seal(&b, s->bytes);
-    plain_parts(s->bytes, &s->parts);
-    check(s, 0);
+    memcpy(f->oem_id, b.header + 8, sizeof f->oem_id);
+    memcpy(f->product, b.header + 16, sizeof f->product);
+    f->oem_pointer = get_le(b.header + 28, 4);
+    f->oem_size = (uint16_t)get_le(b.header + 32, 2);
+    f->local_apic = get_le(b.header + 36, 4);
+    f->reserved = b.header[43];
+    s->base_end = HEADER + b.base_len;
 }
 
 /* The source of an I/O interrupt in the middle of them. */
@@ -316,7 +190,7 @@ static void ask_routes(struct subject *s)
     size_t first = 0, last = b.base_len;
 
     while (b.base[first] != 3)
-        first += b.base[first] == 0 ? 20 : 8;
+        first += entry_length(b.base + first);
     while (b.base[last - 8] != 3)
         last -= 8;
 
@@ -337,39 +211,85 @@ static void ask_address(struct subject *s)
         }
 }
 
-static void asked(const char *name, bool full, enum work work)
+/* One that is on both lists, on the first bus that has a modifier. */
+static void ask_io_address(struct subject *s)
 {
-    struct subject *s = next(name, work, full);
-
-    s->size = seal(&b, s->bytes);
-    if (work == ROUTES)
-        ask_routes(s);
-    else
-        ask_address(s);
-    check(s, 0);
+    s->bus = 0;
+    s->kind = 0;
+    s->address = 0x3B0;
+    for (size_t at = 0; at < b.ext_len; at += b.ext[at + 1])
+        if (b.ext[at] == 130) {
+            s->bus = b.ext[at + 2];
+            return;
+        }
 }
 
-static void asked_tables(enum work work)
+/* ---- subjects ---- */
+
+static uint64_t expected(const struct board *k, enum work work)
 {
-    fill_bench_board();
-    asked("bench board", false, work);
-    fill_typical();
-    asked("typical, 40 entries", false, work);
-    for (size_t k = 0; k < ASKED_KINDS; k++)
-        for (uint32_t part = 1; part <= 2; part++) {
-            fill_board(&asked_kinds[k], part);
-            asked(asked_kinds[k].name, part == 1, work);
+    if (work == EDIT_REFUSED)
+        return 23 | 17 << 8;
+    return k->pointer == NOWHERE ? 2 : 0;
+}
+
+/* All answer the same, and what is meant to be refused is refused so. */
+static void check(struct subject *s, uint64_t refusal)
+{
+    s->answer = call_program(PLAIN_O2, s);
+    for (int j = 0; j < PROGRAMS; j++) {
+        uint64_t answer = call_program(j, s);
+
+        if (answer != s->answer || (answer & 0xFFFF) != refusal) {
+            fprintf(stderr, "%s, %zu bytes, work %d: program %d answers %llX\n",
+                    s->name, s->size, s->work, j, (unsigned long long)answer);
+            exit(1);
         }
+    }
+}
+
+static void make_subject(const struct board *k, enum work work, uint32_t part)
+{
+    struct subject *s = &subjects[subject_count++];
+
+    if (subject_count > SUBJECTS_MAX) {
+        fprintf(stderr, "more than %d subjects\n", SUBJECTS_MAX);
+        exit(1);
+    }
+    fill(k, part);
+    s->name = k->name;
+    s->work = work;
+    s->full = (k->halved || k->dump > 0) && part == 1;
+    s->room = sizeof room;
+    if (work == READ || work == LIST || work == LIST_FITTING)
+        s->size = dump_around(&b, k->dump / part, k->pointer, s->bytes);
+    else
+        s->size = seal(&b, s->bytes);
+    switch (work) {
+    case EDIT: case EDIT_REFUSED: ask_edit(s); break;
+    case WRITE: ask_write(s); break;
+    case ROUTES: ask_routes(s); break;
+    case ADDRESS: ask_address(s); break;
+    case IO_ADDRESS: ask_io_address(s); break;
+    default: break;
+    }
+    check(s, expected(k, work));
+    if (work == LIST_FITTING) {
+        s->room = ruxtajma_count(s->answer);
+        check(s, expected(k, work));
+    }
 }
 
 void make_subjects(void)
 {
-    judged_tables();
-    each_board(listed, LIST);
-    large_dumps();
-    for (enum work work = EDIT_MIDDLE; work <= EDIT_REFUSED; work++)
-        each_board(edited, work);
-    each_board(written, WRITE);
-    asked_tables(ROUTES);
-    asked_tables(ADDRESS);
+    for (enum work work = 0; work < WORKS; work++)
+        for (size_t i = 0; i < sizeof boards / sizeof boards[0]; i++) {
+            const struct board *k = &boards[i];
+
+            if (!(k->works & BIT(work)))
+                continue;
+            make_subject(k, work, 1);
+            if (k->halved || k->dump > 0)
+                make_subject(k, work, 2);
+        }
 }

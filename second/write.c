@@ -3,14 +3,10 @@
  * checksums, and has it judged.
  */
 #include "write.h"
+#include "answer.h"
 #include "judge.h"
 
 #include <string.h>
-
-static uint64_t refused(uint32_t number)
-{
-    return (uint64_t)number << 32;
-}
 
 /*
  * How many entries the base bytes are walked into.  Where one has another type
@@ -71,12 +67,12 @@ uint64_t plain_write(const struct fields *f,
     room[7] = (uint8_t)-sum(room, base_end);
 
     /* "Then the finished image is judged, and a refusal leaves its bytes zero" */
-    uint8_t refusal = plain_judge(room, length);
+    uint8_t refusal = (uint8_t)plain_judge(room, length);
     if (refusal != 0) {
         memset(room, 0, length);
         return refused(refusal);
     }
-    return length;
+    return counted(length);
 }
 
 void plain_parts(const uint8_t *t, struct parts *p)

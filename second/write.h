@@ -17,9 +17,9 @@ struct fields {
 
 /*
  * Writes a table of these fields, base entries and extended entries at the
- * room's first byte.  Answers how many bytes it has, or the refusal number in
- * the upper 32 bits: 7, 13 or 19, then nothing was written, or what the judge
- * says of the finished image, then its bytes are zero.  What lies past the
+ * room's first byte.  Answers how many bytes it has, from bit 16 on, or the
+ * refusal number: 7, 13 or 19, then nothing was written, or what the judge says
+ * of the finished image, then its bytes are zero.  What lies past the
  * image stays.  The room may not overlap the entries; nothing may be NULL.
  */
 uint64_t plain_write(const struct fields *f,
