@@ -10,11 +10,11 @@ use Rattle.mps.specs.Words.{among, any, each, first}
 use Rattle.mps.specs.Refusals.{Rule, _when_, refusal, innerNumber}
 use Rattle.mps.specs.Answers.{editedOf}
 use Rattle.mps.specs.Judge.{tableRules, tableRefusal}
-use Rattle.mps.specs.Edits.{Edit, standing, offsetOf, editedTable, noPlace, otherShape, changed, innerRefusal, editRules, editRefusal, edited, editLeft}
+use Rattle.mps.specs.Edits.{Edit, standing, offsetOf, editedTable, noPlace, otherShape, changed, innerRefusal, editRules, editRefusal, edited, editLeft, entryRules}
 use Rattle.mps.specs.declared.Edited.{Edited}
 use Rattle.mps.specs.declared.Edited.the-variants.{Refused as Edited·Refused}
 use Rattle.laws.proofs.Refusals.{number, first-some, first-none, refusal-append, refusal-pass, refusal-below}
-use Rattle.editor.specs.Tested.{testedOf, entryRules, testRules, tested, Ready, exchangedTable, exchangedOf, exchanged, exchangeLeft}
+use Rattle.editor.specs.Tested.{testedOf, testRules, tested, Ready, exchangedTable, exchangedOf, exchanged, exchangeLeft}
 use Rattle.editor.specs.declared.Tested.{Tested}
 use Rattle.editor.specs.declared.Tested.the-variants.{At, Refused}
 use Rattle.accepted.proofs.Sound.{sound}
@@ -68,7 +68,7 @@ inner-none (suc n) = rw (ne-eqb (suc n) 0 (λ e. omega arith))
 tests-given :
     (t : List ℕ) (e : Edit)
     → (among 0 (each number (testRules t e)) ≡ false) × (any (λ (r : Rule). leb 23 (number r)) (testRules t e) ≡ false)
-unfolding testRules entryRules tableRules among each any
+unfolding testRules tableRules among each any
 tests-given t e = (refl, refl)
 
 -- What the tests have shown.
@@ -78,7 +78,6 @@ pub record Passed (t : List ℕ) (e : Edit) : Type 0 where
   pub seen : e .stated ≡ standing t (e .place)
 
 pub passed-tests : (t : List ℕ) (e : Edit) → refusal (testRules t e) ≡ 0 → Passed t e
-unfolding entryRules
 passed-tests t e z =
     let a = first-none (tableRefusal t) (refusal (entryRules t e)) (sym (tests-number t e) ∙ z) in
     let p = refusal-pass 20 (noPlace t e) (21 when otherShape t e ∷ 22 when changed t e ∷ []) (omega arith) (a .1) in
@@ -88,7 +87,7 @@ passed-tests t e z =
 
 module _ (t : List ℕ) (e : Edit) where
   edit-number : editRefusal t e ≡ first (refusal (testRules t e)) (inner (innerRefusal t e))
-  unfolding editRefusal editRules testRules entryRules inner
+  unfolding editRefusal editRules testRules inner
   edit-number =
       ap refusal (sym (append-assoc (tableRules t) (entryRules t e) _))
       ∙ refusal-append (testRules t e) _ (tests-given t e .0)
@@ -101,7 +100,7 @@ module _ (t : List ℕ) (e : Edit) where
       (passed-tests t e (parts .0), eqb-true i 0 (sym (inner-none i) ∙ eq-eqb (inner i) 0 (parts .1)))
 
   pub edit-passes : Passed t e → innerRefusal t e ≡ 0 → editRefusal t e ≡ 0
-  unfolding entryRules refusal inner
+  unfolding refusal inner
   edit-passes p i =
       let shape = shape-passes t e (p .shaped) in
       edit-number ∙ rw (tests-number t e, p .table, shape .0, shape .1, seen-unchanged t e (p .seen), i)

@@ -13,9 +13,9 @@ use Rattle.mps.specs.Words.{byte, cut, among, each, first, same, part}
 use Rattle.mps.specs.Refusals.{refusal}
 use Rattle.mps.specs.Layout.{headerSize, baseLength, entryCount, baseEntryLength, baseEntries}
 use Rattle.mps.specs.Judge.{tableRules, tableRefusal}
-use Rattle.mps.specs.Edits.{Edit, standing, before, offsetOf, noPlace, otherShape, changed}
+use Rattle.mps.specs.Edits.{Edit, standing, before, offsetOf, noPlace, otherShape, changed, entryRules}
 use Rattle.laws.proofs.Refusals.{number, refusal-append, refusal-stop, refusal-go, refusal-end}
-use Rattle.editor.specs.Tested.{editOf, testedOf, entryRules, testRules, tested}
+use Rattle.editor.specs.Tested.{editOf, testedOf, testRules, tested}
 use Rattle.editor.specs.declared.Tested.the-variants.{At, Refused}
 use Rattle.accepted.proofs.Sound.{sound}
 use Rattle.accepted.proofs.Stands.{Stands, stands}
@@ -44,7 +44,7 @@ module _ (t : List ℕ) (e : Edit) where
     passed h = rw (tests-number, z, h)
 
     pub tested-20 : entryCount t ≤ e .place → Refused 20 ≡ tested t e
-    unfolding entryRules noPlace
+    unfolding noPlace
     tested-20 h = passed (refusal-stop {b = noPlace t e} 20 _ (rw (le-ltb _ _ h)))
 
     module _ (p : e .place < entryCount t) where
@@ -53,15 +53,12 @@ module _ (t : List ℕ) (e : Edit) where
       placed = rw (lt-ltb _ _ p)
 
       tested-21 : otherShape t e ≡ true → Refused 21 ≡ tested t e
-      unfolding entryRules
       tested-21 h = passed (refusal-go 20 _ placed ∙ refusal-stop 21 _ h)
 
       tested-22 : otherShape t e ≡ false → changed t e ≡ true → Refused 22 ≡ tested t e
-      unfolding entryRules
       tested-22 h k = passed (refusal-go 20 _ placed ∙ refusal-go 21 _ h ∙ refusal-stop 22 _ k)
 
       tested-at : otherShape t e ≡ false → changed t e ≡ false → At (offsetOf t (e .place)) ≡ tested t e
-      unfolding entryRules
       tested-at h k = passed (refusal-go 20 _ placed ∙ refusal-go 21 _ h ∙ refusal-go 22 _ k ∙ refusal-end)
 
 -- ---- As the code tests them

@@ -7,10 +7,10 @@ use lib.ListN.{length}
 use lib.Seq.{sets}
 use lib.Dec.{eqb}
 use Rattle.mps.specs.Words.{part}
-use Rattle.mps.specs.Refusals.{Rule, _when_, refusal}
+use Rattle.mps.specs.Refusals.{Rule, refusal}
 use Rattle.mps.specs.Layout.{headerSize, baseLength}
 use Rattle.mps.specs.Judge.{tableRules, tableRefusal}
-use Rattle.mps.specs.Edits.{Edit, offsetOf, sealed, noPlace, otherShape, changed}
+use Rattle.mps.specs.Edits.{Edit, offsetOf, sealed, entryRules}
 use Rattle.mps.specs.declared.Edited.{Edited}
 use Rattle.mps.specs.declared.Edited.the-variants.{Done, Inner}
 use Rattle.editor.specs.declared.Tested.{Tested}
@@ -24,10 +24,6 @@ editOf place stated wanted = record { place = place; stated = stated; wanted = w
 abbrev pub testedOf : ℕ → ℕ → Tested
 testedOf zero at = At at
 testedOf (suc n) at = Refused (suc n)
-
--- 20 to 22: the entry.
-unfoldable pub entryRules : List ℕ → Edit → List Rule
-entryRules t e = 20 when noPlace t e ∷ 21 when otherShape t e ∷ 22 when changed t e ∷ []
 
 -- 5 to 22.
 unfoldable pub testRules : List ℕ → Edit → List Rule

@@ -17,7 +17,7 @@ use Rattle.mps.specs.Judge.{tableRules, tableRefusal, pointerRules, dumpRules, 
 use Rattle.mps.specs.Listing.{listing, listRefusal, listed}
 use Rattle.mps.specs.Writing.{Parts, image, imageSize, earlyRefusal, writeRefusal, written, parted}
 use Rattle.mps.specs.Edits.{Edit, editedTable, innerRefusal, editRules, editRefusal, edited}
-use Rattle.mps.specs.Reader.{entrySize, found}
+use Rattle.mps.specs.Reader.{sizeAt, found}
 use Rattle.mps.specs.Routes.{pairSize, routesOf, routeRules, routeRefusal, routed}
 use Rattle.mps.specs.Addresses.{Say, says, answer, climb, seenBy, addressRules, seen}
 use Rattle.mps.specs.declared.Held.{Held}
@@ -245,4 +245,4 @@ found-of (suc n) h = h
 
 pub entry-fits : (t : List ℕ) (place : ℕ) → Bytes t → FoundFits (found t place)
 unfolding found
-entry-fits t place small = found-of (entrySize t place) (size-most t place small)
+entry-fits t place small = found-of (sizeAt t place) (size-most t place small)

@@ -86,9 +86,9 @@ unfoldable pub seenBy : List ℕ → ℕ → ℕ → ℕ → Seen
 seenBy t bus kind address =
     climb (length (idsOf busType (baseEntries t)) - 1) (extendedEntries t) bus kind address 0
 
--- ---- The query: "queries test the table, then 24"
+-- ---- The query: "queries test the table, then 24, then 19". This one has no room, so 19 does not come.
 
--- 24: "query: bus not listed, address kind over 2"
+-- 24: "query: bus not listed, address kind over 2 or interrupt type over 3", of which an address query has the first two.
 unfoldable pub wrongSpace : List ℕ → ℕ → ℕ → Bool
 wrongSpace t bus kind = not (isListed (baseEntries t) bus) || ltb spaceKindMost kind
 

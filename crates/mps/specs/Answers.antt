@@ -56,7 +56,7 @@ abbrev pub routedNumbers : Routed → List ℕ
 routedNumbers (Pairs count) = 0 ∷ count ∷ []
 routedNumbers (Routed·Refused n) = n ∷ []
 
--- no is 0, yes is 1, undeclared is 2; then the links climbed.
+-- The paper names the three answers and gives them no numbers: no is 0, yes is 1, undeclared is 2. Then the links climbed.
 abbrev pub seenNumbers : Seen → List ℕ
 seenNumbers (No links) = 0 ∷ 0 ∷ links ∷ []
 seenNumbers (Yes links) = 0 ∷ 1 ∷ links ∷ []

@@ -7,7 +7,7 @@ use lib.Dec.{leb, ltb, eqb}
 use Rattle.mps.specs.Words.{part, keep, any, every, each, head, twice, within}
 use Rattle.mps.specs.Sums.{total}
 use Rattle.mps.specs.declared.Region.{Region}
-use Rattle.mps.specs.Layout.{dumpMost, regionsMost, regionStep, kilobyte, romStart, romEnd, memoryEnd, regionCount, rowLength, rowKind, rowBase, rowSize}
+use Rattle.mps.specs.Layout.{ebda, baseMemory, biosRom, otherMemory, dumpMost, regionsMost, regionStep, kilobyte, romStart, romEnd, memoryEnd, regionCount, rowLength, rowKind, rowBase, rowSize}
 
 -- Where a region ends: "base plus length", the sum of the numbers with no wrap at 2^32.
 abbrev pub endOf : Region → ℕ
@@ -46,9 +46,9 @@ ofKind k r = eqb (r .kind) k
 -- "kinds 1 and 2 have at most 1,024 bytes; kind 3 has its base at F0000h or above and base plus length at most 100000h"
 unfoldable pub kindRule : Region → Bool
 kindRule r =
-    (ofKind 1 r || ofKind 2 r) && leb (r .size) kilobyte
-    || ofKind 3 r && (leb romStart (r .base) && leb (endOf r) romEnd)
-    || ofKind 4 r
+    (ofKind ebda r || ofKind baseMemory r) && leb (r .size) kilobyte
+    || ofKind biosRom r && (leb romStart (r .base) && leb (endOf r) romEnd)
+    || ofKind otherMemory r
 
 -- "Bases are multiples of 16; base plus length is at most 2^32".
 unfoldable pub soundRegion : Region → Bool
@@ -66,7 +66,7 @@ overlap [] = false
 overlap (r ∷ rs) = any (share r) rs || overlap rs
 
 abbrev pub onceOnly : Region → Bool
-onceOnly r = within 1 3 (r .kind)
+onceOnly r = within ebda biosRom (r .kind)
 
 -- "kinds 1 to 3 occur at most once": whether some kind stands twice.
 unfoldable pub kindTwice : List Region → Bool

@@ -60,14 +60,14 @@ changed t e = not (same (e .stated) (standing t (e .place)))
 unfoldable pub innerRefusal : List ℕ → Edit → ℕ
 innerRefusal t e = tableRefusal (editedTable t e)
 
+-- What is tested at the entry itself, before anything is written.
+abbrev pub entryRules : List ℕ → Edit → List Rule
+entryRules t e = 20 when noPlace t e ∷ 21 when otherShape t e ∷ 22 when changed t e ∷ []
+
 unfoldable pub editRules : List ℕ → Edit → List Rule
 editRules t e =
     tableRules t
-    ++ (20 when noPlace t e
-    ∷ 21 when otherShape t e
-    ∷ 22 when changed t e
-    ∷ innerNumber when not (eqb (innerRefusal t e) 0)
-    ∷ [])
+    ++ (entryRules t e ++ (innerNumber when not (eqb (innerRefusal t e) 0) ∷ []))
 
 unfoldable pub editRefusal : List ℕ → Edit → ℕ
 editRefusal t e = refusal (editRules t e)

@@ -1,7 +1,8 @@
 -- Layouts and limits: the offsets, widths, lengths and limits of the dump, the pointer, the table and its entries. The
 -- ranges of MPS Table 4-17 stand in Ranges; the writer's header lays the fields of Table 4-2 one behind the other once more.
 -- Document 01, "The dump", "The floating pointer" and "The table"; MPS 4.1 to 4.4. "Reserved bits and bytes decide nothing
--- and are kept": only byte 43 has a name, since the writer takes it.
+-- and are kept": only byte 43 has a name, since the writer takes it. Nor has what no rule reads by itself: the pointer's
+-- "checksum at 10", which counts in its sum, and a processor's "signature 4, features 8".
 use Prim.Native.Nat.{ℕ, _+_, _/_, _%_, _^_}
 use mathlib.Core.Bool.{Bool, cond}
 use mathlib.Core.List.{List}
@@ -66,6 +67,19 @@ abbrev pub ioApicStep : ℕ
 ioApicStep = 1024
 
 -- ---- The dump: "Byte 0 is the number of regions"; "nine bytes a region: kind (1), physical base (4), length (4)"
+
+-- "Kinds: 1 first kilobyte of the EBDA, 2 last kilobyte of base memory, 3 BIOS ROM, 4 other memory."
+abbrev pub ebda : ℕ
+ebda = 1
+
+abbrev pub baseMemory : ℕ
+baseMemory = 2
+
+abbrev pub biosRom : ℕ
+biosRom = 3
+
+abbrev pub otherMemory : ℕ
+otherMemory = 4
 
 abbrev pub regionCount : List ℕ → ℕ
 regionCount d = byte d 0

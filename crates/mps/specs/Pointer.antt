@@ -6,7 +6,7 @@ use lib.ListN.{length}
 use lib.Dec.{ltb, eqb}
 use Rattle.mps.specs.Words.{text, flag, same, part, cut, only, keep, any, none, head, joined}
 use Rattle.mps.specs.Sums.{sum256}
-use Rattle.mps.specs.Layout.{knownRevision, defaultMost, oneParagraph, pointerSize, pointerSignature, pointerTable, pointerParagraphs, pointerRevision, feature1, imcr}
+use Rattle.mps.specs.Layout.{ebda, baseMemory, biosRom, knownRevision, defaultMost, oneParagraph, pointerSize, pointerSignature, pointerTable, pointerParagraphs, pointerRevision, feature1, imcr}
 use Rattle.mps.specs.Dump.{regions, body, ofKind, holding}
 use Rattle.mps.specs.declared.Region.{Region}
 
@@ -41,7 +41,9 @@ goodOne c = good (c .bytes)
 
 -- "Search kind 1, then kind 2 only if no kind 1 region is listed (even an empty one counts as listed), then kind 3".
 unfoldable pub searched : List Region → List Region
-searched rs = keep (ofKind 1) rs ++ (only (not (any (ofKind 1) rs)) (keep (ofKind 2) rs) ++ keep (ofKind 3) rs)
+searched rs =
+    keep (ofKind ebda) rs
+    ++ (only (not (any (ofKind ebda) rs)) (keep (ofKind baseMemory) rs) ++ keep (ofKind biosRom) rs)
 
 -- The good pointers of a dump in the order of the search, addresses rising in each region.
 unfoldable pub pointers : List ℕ → List Candidate

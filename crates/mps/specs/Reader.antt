@@ -30,19 +30,19 @@ whole place size end = cond (leb (place + size) end) size 0
 
 -- The length of the entry at a place. "A place below 44, at or past the end, or where no whole entry stands, gives no
 -- entry and stays; so does any place in a buffer under 44 bytes": its length is 0 there.
-unfoldable pub entrySize : List ℕ → ℕ → ℕ
-entrySize t place =
+unfoldable pub sizeAt : List ℕ → ℕ → ℕ
+sizeAt t place =
     cond (ltb (length t) headerSize || ltb place headerSize) 0
     (cond (ltb place (readBaseEnd t)) (whole place (baseStep (drop place t)) (readBaseEnd t))
     (cond (ltb place (readExtendedEnd t)) (whole place (extendedStep (drop place t)) (readExtendedEnd t)) 0))
 
 -- The entry at a place.
 unfoldable pub entryAt : List ℕ → ℕ → Entry
-entryAt t place = take (entrySize t place) (drop place t)
+entryAt t place = take (sizeAt t place) (drop place t)
 
 -- The place after it; where there is none, the place stays.
 unfoldable pub nextPlace : List ℕ → ℕ → ℕ
-nextPlace t place = place + entrySize t place
+nextPlace t place = place + sizeAt t place
 
 unfoldable pub found : List ℕ → ℕ → Found
-found t place = foundOf (entrySize t place)
+found t place = foundOf (sizeAt t place)

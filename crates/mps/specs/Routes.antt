@@ -1,6 +1,5 @@
 -- Interrupt routes. Document 01, "Routes and addresses", first paragraph; MPS 4.3.4 and 4.3.5. MPS connects destination 0FFh
--- to all APICs; the paper to the enabled ones, since a processor or an I/O APIC without its EN bit is "unusable" (MPS 4.3.1
--- and 4.3.3).
+-- to all APICs; the paper to the enabled ones. (MPS 4.3.1 and 4.3.3 call one without its EN bit "unusable".)
 use Prim.Native.Nat.{ℕ, _/_}
 use mathlib.Core.Bool.{Bool, cond, not, _||_, _&&_}
 use mathlib.Core.List.{List, [], _∷_, _++_}

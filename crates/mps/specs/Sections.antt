@@ -10,7 +10,8 @@ use Rattle.mps.specs.Sums.{total}
 use Rattle.mps.specs.Layout.{Entry, ofType, headerSize, processorType, mappingType, baseLength, extendedEnd, baseEntries, extendedEntries}
 use Rattle.mps.specs.declared.Sections.{Sections}
 
--- Entries of n bytes each, one behind the other: the whole pieces of n bytes of some bytes.
+-- Entries of n bytes each, one behind the other: the whole pieces of n bytes of some bytes. What stands between two places
+-- of the sections is read so.
 unfoldable pub rows : ℕ → List ℕ → List Entry
 rows n s = keep (λ e. eqb (length e) n) (cut (λ _. n) 0 s)
 

@@ -62,7 +62,8 @@ descendingType t = eqb (walkFault t) orderNumber
 
 -- ---- The walk over the extended entries
 
--- "cut entry, length under 2, type under 128 or descending, or 128 to 130 with another length than theirs"
+-- "cut entry, length under 2, type under 128 or descending, or 128 to 130 with another length than theirs". An entry of
+-- length 0 or 1, and a lone last byte, are pieces without a length byte: that reads as 0, which is under 2.
 unfoldable pub extendedFault : ℕ → Entry → Bool
 extendedFault before e =
     ltb (extendedEntryLength e) leastLength

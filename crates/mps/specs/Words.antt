@@ -99,7 +99,8 @@ module _ {A B : Type 0} where
 
 -- The pieces of a list of bytes are `cut len 0 s`: the bytes from the first of a piece on tell its length, and the last
 -- piece is what is left, where that is shorter. A piece of length 0 is empty and passes one byte. The number k is how
--- many bytes of a piece are still to be passed.
+-- many bytes of a piece are still to be passed. In plain words (crate laws, cut-first): where the length is not 0, the
+-- first piece, and then the pieces of what is left behind it.
 unfoldable pub cut : (List ℕ → ℕ) → ℕ → List ℕ → List (List ℕ)
 cut len k [] = []
 cut len (suc k) (x ∷ xs) = cut len k xs

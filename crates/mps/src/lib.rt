@@ -1,6 +1,6 @@
 // The definitions of the whole product, and the types of its answers.
 //
-// specs/ is document 01 and Intel's MPS 1.4 in executable form, one module for each section; it is what a reader
+// specs/ is document 01 and Intel's MPS 1.4 in executable form, a module for each of its subjects; it is what a reader
 // must believe, and what the contracts of the crates above cite. Nothing here runs and nothing needs a proof by
 // walk: laws about the definitions stand in `laws` and in the crates that use them. Read specs/ in the order of
 // specs/Lib.antt.

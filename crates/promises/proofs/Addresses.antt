@@ -17,13 +17,14 @@ use Rattle.mps.specs.Layout.{Entry, busType, spaceKindMost, extendedBus, parent
 use Rattle.mps.specs.Rules.{isListed, idsOf, links, onBus, parentsOf, wrongHierarchy}
 use Rattle.mps.specs.Judge.{tableRules, tableRefusal}
 use Rattle.mps.specs.Addresses.{Say, says, answer, climb, seenBy, wrongSpace, addressRules, seen}
-use Rattle.mps.specs.Answers.{seenOf, seenNumbers, linksOf}
+use Rattle.mps.specs.Answers.{linksOf}
 use Rattle.mps.specs.declared.Seen.{Seen}
 use Rattle.mps.specs.declared.Seen.the-variants.{No, Undeclared, Refused}
 use Rattle.laws.proofs.Tests.{whether, or-parts}
 use Rattle.laws.proofs.Refusals.{so, refusal-none, given-before, given-exactly}
 use Rattle.laws.proofs.Circle.{parentsOf-here, parentsOf-skip}
 use Rattle.accepted.proofs.Obeyed.{obeyed}
+use Rattle.promises.proofs.Answered.{seen-refusal}
 use Rattle.promises.proofs.Given.{Exactly}
 use Rattle.addresses.proofs.Links.{links-climb, links-bound}
 use Rattle.addresses.proofs.Climbs.{parent-linked, answer-above}
@@ -178,33 +179,11 @@ seen-says t bus kind address a l k =
 
 -- ---- The numbers
 
-numberOf : Seen → ℕ
-numberOf r = head 0 (seenNumbers r)
-
-number-answer : (s : Say) (k : ℕ) (above : Seen) → numberOf above ≡ 0 → numberOf (answer s k above) ≡ 0
-unfolding numberOf
-number-answer Say.no k above e = refl
-number-answer Say.yes k above e = refl
-number-answer Say.parent k above e = e
-number-answer Say.undeclared k above e = refl
-
-number-climb : (left : ℕ) (xs : List Entry) (bus kind address k : ℕ) → numberOf (climb left xs bus kind address k) ≡ 0
-unfolding climb numberOf
-number-climb zero xs bus kind address k = number-answer (says xs bus kind address) k (Undeclared k) refl
-number-climb (suc left) xs bus kind address k =
-    number-answer (says xs bus kind address) k _ (number-climb left xs (head bus (parentsOf (links xs) bus)) kind address (k + 1))
-
--- The number of an answer is the refusal's: a climb refuses nothing.
-number-of : (n left : ℕ) (xs : List Entry) (bus kind address k : ℕ) → numberOf (seenOf n (climb left xs bus kind address k)) ≡ n
-unfolding numberOf
-number-of zero left xs bus kind address k = number-climb left xs bus kind address k
-number-of (suc n) left xs bus kind address k = refl
-
 module _ (t : List ℕ) (bus kind address : ℕ) where
   -- A refusal is answered with its number.
   pub seen-refused : (n : ℕ) → (seen t bus kind address ≡ Refused (suc n)) ↔ (refusal (addressRules t bus kind) ≡ suc n)
-  unfolding seen seenBy numberOf
-  seen-refused n = (λ e. sym (number-of (refusal (addressRules t bus kind)) (length (idsOf busType (baseEntries t)) - 1) (extendedEntries t) bus kind address 0) ∙ ap numberOf e, λ e. rw e)
+  unfolding seen
+  seen-refused n = (λ e. seen-refusal t bus kind address (refusal (addressRules t bus kind)) (suc n) e .1, λ e. rw e)
 
   -- Answered: no row is so.
   pub address-none : (refusal (addressRules t bus kind) ≡ 0) ↔ (any so (addressRules t bus kind) ≡ false)

@@ -9,7 +9,7 @@ use lib.ListN.{length}
 use Rattle.mps.specs.Words.{any, none, head}
 use Rattle.mps.specs.Layout.{Entry, busType}
 use Rattle.mps.specs.Rules.{links, parentsOf, isListed, idsOf, wrongHierarchy, circle}
-use Rattle.mps.specs.Addresses.{says, answer, climb}
+use Rattle.mps.specs.Addresses.{says, climb}
 use Rattle.laws.proofs.Circle.{climbs, climbs-listed}
 use Rattle.addresses.proofs.Climbs.{parent-linked, answer-above}
 

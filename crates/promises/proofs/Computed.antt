@@ -19,7 +19,7 @@ use Rattle.mps.specs.Addresses.{covers, touches, takesAway, adds, coversOrAdds,
 use Rattle.mps.specs.Listing.{digits, decimalDigit, hexDigit, decimalWidth, decimal, hex, line, unpadded, onOff, bootAp, interruptName, cpuLine, busLine, ioApicLine, interruptLine, baseLine, mapLine, treeLine, modLine, skipLine, extendedLine, defaultLine, pointerLine, tableLine, endLine, tableLines, listing, refusedLine, programOutput, listRefusal, listed, listLeft, printRefusal, printed, printLeft}
 use Rattle.mps.specs.Writing.{fieldsOf, partsOf, parted, header, extendedSumOf, baseSumOf, image, earlyRefusal, writeRefusal, written, writeLeft}
 use Rattle.mps.specs.Edits.{standing, before, offsetOf, sealed, editedTable, noPlace, otherShape, changed, innerRefusal, editRules, editRefusal, edited, editLeft, run, runAnswers}
-use Rattle.mps.specs.Reader.{baseStep, extendedStep, entrySize, entryAt, nextPlace, found}
+use Rattle.mps.specs.Reader.{baseStep, extendedStep, sizeAt, entryAt, nextPlace, found}
 
 ofWords : ℕ
 unfolding text bit same among twice common keep any every each joined cut exactly
@@ -94,7 +94,7 @@ unfolding standing before offsetOf sealed editedTable noPlace otherShape changed
 ofEdits = 0
 
 ofReader : ℕ
-unfolding baseStep extendedStep entrySize entryAt nextPlace found
+unfolding baseStep extendedStep sizeAt entryAt nextPlace found
 ofReader = 0
 
 unfoldable pub computed : ℕ

@@ -1,6 +1,6 @@
 -- The numbers of an edit, "given exactly when"; demand 3: "In a sound table, with a place that exists and the right lengths
 -- and type, it is refused as changed exactly when other bytes stand there"; and what an accepted edit tells. Assumes nothing.
-use Prim.Native.Nat.{ℕ, zero, suc, _<_, _≤_}
+use Prim.Native.Nat.{ℕ, _<_, _≤_}
 use mathlib.Core.Path.{_≡_, refl, sym, ap, _∙_}
 use mathlib.Core.Bool.{true, false, not, true≢false}
 use mathlib.Core.Logic.{_↔_}
@@ -13,7 +13,7 @@ use Rattle.mps.specs.Words.{among, any, each, head}
 use Rattle.mps.specs.Refusals.{Rule, _when_, refusal, innerNumber}
 use Rattle.mps.specs.Answers.{editedOf, editedNumbers}
 use Rattle.mps.specs.Judge.{tableRules, tableRefusal}
-use Rattle.mps.specs.Edits.{Edit, standing, editedTable, noPlace, otherShape, changed, innerRefusal, editRules, editRefusal, edited, editLeft}
+use Rattle.mps.specs.Edits.{Edit, standing, editedTable, noPlace, otherShape, changed, innerRefusal, editRules, editRefusal, edited, editLeft, entryRules}
 use Rattle.mps.specs.declared.Edited.{Edited}
 use Rattle.mps.specs.declared.Edited.the-variants.{Done, Refused, Inner}
 use Rattle.laws.proofs.Tests.{whether, or-parts}
@@ -21,8 +21,9 @@ use Rattle.laws.proofs.Refusals.{number, so, refusal-append, refusal-below, ref
 use Rattle.accepted.proofs.Sound.{sound, sound-rest}
 use Rattle.accepted.proofs.Shaped.{Shaped, shape-passes, other-bytes}
 use Rattle.accepted.proofs.Replaced.{replaced-sound}
-use Rattle.editor.specs.Tested.{entryRules, testRules}
+use Rattle.editor.specs.Tested.{testRules}
 use Rattle.editor.proofs.Laws.{passed-tests, edit-none, edit-passes}
+use Rattle.promises.proofs.Answered.{edited-number}
 use Rattle.promises.proofs.Given.{Exactly}
 
 -- ---- The answer and the number
@@ -35,16 +36,10 @@ innerOf Done = 0
 innerOf (Refused n) = 0
 innerOf (Inner n) = n
 
-number-of : (n inner : ℕ) → numberOf (editedOf n inner) ≡ n
-unfolding numberOf
-number-of zero inner = refl
-number-of (suc n) inner =
-    whether (eqb (suc n) innerNumber) (λ e. rw e (sym (eqb-true (suc n) innerNumber e))) (λ e. rw e)
-
 module _ (t : List ℕ) (e : Edit) where
   number-edited : {r : Edited} → edited t e ≡ r → editRefusal t e ≡ numberOf r
-  unfolding edited
-  number-edited d = sym (number-of (editRefusal t e) (innerRefusal t e)) ∙ ap numberOf d
+  unfolding edited numberOf
+  number-edited d = sym (edited-number (editRefusal t e) (innerRefusal t e)) ∙ ap numberOf d
 
   answered : {n : ℕ} → editRefusal t e ≡ n → edited t e ≡ editedOf n (innerRefusal t e)
   unfolding edited
@@ -176,7 +171,7 @@ inner-late t e a h n =
 
 -- The edited table passes 5 to 13 again, so that the number which 23 gives too is one of 14 to 18.
 pub inner-number : (t : List ℕ) (e : Edit) (n : ℕ) → edited t e ≡ Inner n → (14 ≤ n) × (n < 19)
-unfolding editRules testRules entryRules tableRules among each
+unfolding editRules testRules tableRules among each
 inner-number t e n d =
     let k = inner-exactly t e n .0 d in
     let g = given-23 t e .0 (k .0) in

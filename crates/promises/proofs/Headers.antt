@@ -1,9 +1,9 @@
 -- A header and its fields: what is read of a written one, and how one is written from what was read. Assumes nothing.
 use Prim.Native.Nat.{ℕ, _+_, _-_, _%_, _^_, _≤_, _<_}
-use mathlib.Core.Path.{_≡_, refl, sym, _∙_}
-use mathlib.Core.List.{List, [], _∷_, _++_}
+use mathlib.Core.Path.{_≡_, refl, sym, ap, _∙_}
+use mathlib.Core.List.{List, [], _∷_, _++_, append-assoc}
 use native.Mathlib.Omega.{arith}
-use lib.ListN.{length, take, drop, length-drop}
+use lib.ListN.{length, take, drop, length-drop, length-append}
 use lib.Seq.{length-take-le, take-at, take-length, take-append-seam, drop-at, drop-append-seam, drop-drop}
 use Rattle.mps.specs.Words.{byte, text, exactly}
 use Rattle.mps.specs.Sums.{total, sum256}
@@ -68,6 +68,15 @@ module _ (p : Parts) where
   image-behind : drop headerSize (image p) ≡ p .base ++ p .extended
   unfolding image
   image-behind = drop-at (header p (baseSumOf p) (extendedSumOf p)) (p .base ++ p .extended) headerSize (length-header p _ _)
+
+  -- Its base bytes, where its length is read as it is.
+  pub image-front : take (baseSize p) (image p) ≡ header p (baseSumOf p) (extendedSumOf p) ++ p .base
+  unfolding image
+  image-front =
+      let h = header p (baseSumOf p) (extendedSumOf p) in
+      rw (← append-assoc h (p .base) (p .extended))
+      (take-at (h ++ p .base) (p .extended) (baseSize p)
+      (length-append h (p .base) ∙ ap (λ (n : ℕ). n + length (p .base)) (length-header p _ _)))
 
   module _ (base : baseSize p < 256 ^ 2) (extended : length (p .extended) < 256 ^ 2) where
     pub image-base-length : baseLength (image p) ≡ baseSize p

@@ -10,42 +10,32 @@ use native.Mathlib.Omega.{arith}
 use lib.ListN.{length, take, drop}
 use lib.Dec.{ltb, eqb}
 use borrow.Author.Tests.{eq-eqb, ne-eqb, eqb-true}
-use Rattle.mps.specs.Words.{among, any, each, first, head}
+use Rattle.mps.specs.Words.{among, any, each, first}
 use Rattle.mps.specs.Refusals.{Rule, _when_, refusal, typeNumber, cutNumber, orderNumber}
-use Rattle.mps.specs.Answers.{judgedOf, judgedNumbers}
+use Rattle.mps.specs.Answers.{judgedOf}
 use Rattle.mps.specs.Layout.{Entry, type, lastBaseType, baseEntryLength, entryCount, baseEntries}
 use Rattle.mps.specs.Table.{entryFault, walkFrom, walkFault, wrongType, cutOrMiscounted, descendingType}
 use Rattle.mps.specs.Judge.{tableRules, tableRefusal, judged}
-use Rattle.mps.specs.declared.Judged.{Judged}
 use Rattle.mps.specs.declared.Judged.the-variants.{Accepted, Refused}
 use Rattle.laws.proofs.Tests.{either, and-parts}
 use Rattle.laws.proofs.Refusals.{so, given-exactly, first-some, first-none}
+use Rattle.promises.proofs.Answered.{judged-refused, judged-accepted}
 use Rattle.promises.proofs.Given.{Exactly, given-none, given-10, given-11, given-12}
 
 -- ---- The answer and the number
 
--- The paper's number of an answer, by the definition that gives it.
-numberOf : Judged → ℕ
-numberOf r = head 0 (judgedNumbers r)
-
-number-of : (n : ℕ) → numberOf (judgedOf n) ≡ n
-unfolding numberOf
-number-of zero = refl
-number-of (suc n) = refl
-
 -- Refused with a number exactly when it is the table's,
 pub refused-exactly : (t : List ℕ) (n : ℕ) → 0 < n → (judged t ≡ Refused n) ↔ (tableRefusal t ≡ n)
-unfolding judged numberOf
+unfolding judged
 refused-exactly t zero p = absurd (omega (arith, p))
-refused-exactly t (suc n) p =
-    (λ e. sym (number-of (tableRefusal t)) ∙ ap numberOf e, λ e. ap judgedOf e)
+refused-exactly t (suc n) p = (λ e. judged-refused (tableRefusal t) (suc n) e .1, λ e. ap judgedOf e)
 
 -- and accepted exactly when no row is so.
 pub accepted-exactly : (t : List ℕ) → (judged t ≡ Accepted) ↔ (any so (tableRules t) ≡ false)
-unfolding judged numberOf
+unfolding judged
 accepted-exactly t =
     let none = given-none t in
-    (λ e. none .0 (sym (number-of (tableRefusal t)) ∙ ap numberOf e), λ e. ap judgedOf (none .1 e))
+    (λ e. none .0 (judged-accepted (tableRefusal t) e), λ e. ap judgedOf (none .1 e))
 
 -- ---- "the first faulty entry decides"
 

@@ -2,6 +2,7 @@ pub mod Computed
 pub mod Printed
 pub mod Cases
 pub mod Bench
+pub mod Answered
 pub mod Given
 pub mod Judge
 pub mod Climb
@@ -10,6 +11,10 @@ pub mod Addresses
 pub mod Headers
 pub mod Again
 pub mod Edits
+pub mod Numbered
+pub mod Kept
+pub mod Legible
+pub mod Listed
 pub mod Fresh
 pub mod Runs
 pub mod Back

@@ -14,7 +14,7 @@ use lib.Seq.{take-take, getD-take}
 use borrow.Author.Tests.{leb-true, ltb-true, ltb-false, le-leb, lt-leb}
 use Rattle.mps.specs.Layout.{headerSize, Entry, type, lastBaseType, firstExtendedType, leastLength, baseLength, extendedEnd}
 use Rattle.mps.specs.Layout.{baseEntryLength, extendedEntryLength, ownLength, baseEntries, extendedEntries}
-use Rattle.mps.specs.Reader.{readBaseEnd, readExtendedEnd, baseStep, extendedStep, whole, entrySize, entryAt, nextPlace, found}
+use Rattle.mps.specs.Reader.{readBaseEnd, readExtendedEnd, baseStep, extendedStep, whole, sizeAt, entryAt, nextPlace, found}
 use Rattle.mps.specs.declared.Found.the-variants.{Nothing, Whole}
 use Rattle.mps.specs.Words.{byte, part, cut}
 use Rattle.mps.specs.Refusals.{_when_, refusal, typeNumber, cutNumber, orderNumber, Rule}
@@ -44,11 +44,11 @@ pub record Gives (t : List ℕ) (place n : ℕ) : Type 0 where
   pub inside : place + n ≤ length t
 
 module _ (t : List ℕ) (place : ℕ) where
-  stays : 0 ≡ entrySize t place → Stays t place
+  stays : 0 ≡ sizeAt t place → Stays t place
   unfolding entryAt nextPlace
   stays e = record { none = sym (found-none t place e refl); empty = rw (sym e); same = omega (arith, e) }
 
-  gives : (n : ℕ) → n ≡ entrySize t place → 0 < n → place + n ≤ length t → Gives t place n
+  gives : (n : ℕ) → n ≡ sizeAt t place → 0 < n → place + n ≤ length t → Gives t place n
   unfolding entryAt nextPlace
   gives n e h k =
       let s = sym (found-some t place n e (λ z. omega (arith, h, z))) in
@@ -78,7 +78,7 @@ module _ (t : List ℕ) (place : ℕ) where
 
   -- No step leads out of the buffer.
   pub next-inside : place ≤ length t → nextPlace t place ≤ length t
-  unfolding nextPlace entrySize
+  unfolding nextPlace sizeAt
   next-inside h =
       inside (ltb (length t) headerSize || ltb place headerSize) 0 _ (omega arith)
       (inside (ltb place (readBaseEnd t)) _ _ (fits (baseStep (drop place t)) (readBaseEnd t) (omega arith))
@@ -106,7 +106,7 @@ module _ (t : List ℕ) (place : ℕ) (long : headerSize ≤ length t) (high : h
     abbrev typeLength : ℕ
     typeLength = baseEntryLength here
 
-    base-whole : (n : ℕ) → n ≡ baseStep here → whole place n (readBaseEnd t) ≡ entrySize t place
+    base-whole : (n : ℕ) → n ≡ baseStep here → whole place n (readBaseEnd t) ≡ sizeAt t place
     base-whole n e = size-base t place long high refl below (whole-step t place (readBaseEnd t) e refl)
 
     -- ".. or where no whole entry stands": no such type, or cut by the end.
@@ -117,7 +117,7 @@ module _ (t : List ℕ) (place : ℕ) (long : headerSize ≤ length t) (high : h
         stays t place (whole-fits place 0 (readBaseEnd t) below (omega arith) ∙ e)
 
     module _ (kind : type here ≤ lastBaseType) where
-      typed : whole place typeLength (readBaseEnd t) ≡ entrySize t place
+      typed : whole place typeLength (readBaseEnd t) ≡ sizeAt t place
       unfolding baseStep
       typed = base-whole typeLength (rw (le-leb (type here) lastBaseType kind))
 
@@ -135,7 +135,7 @@ module _ (t : List ℕ) (place : ℕ) (long : headerSize ≤ length t) (high : h
     abbrev lengthByte : ℕ
     lengthByte = extendedEntryLength here
 
-    extended-whole : (n : ℕ) → n ≡ extendedStep here → whole place n (readExtendedEnd t) ≡ entrySize t place
+    extended-whole : (n : ℕ) → n ≡ extendedStep here → whole place n (readExtendedEnd t) ≡ sizeAt t place
     extended-whole n e = size-extended t place long high refl refl past below e refl
 
     no-length : 0 ≡ extendedStep here → Stays t place
@@ -150,7 +150,7 @@ module _ (t : List ℕ) (place : ℕ) (long : headerSize ≤ length t) (high : h
     stays-extended-length k = no-length (rw (lt-leb leastLength lengthByte k, and-false))
 
     module _ (kind : firstExtendedType ≤ type here) (enough : leastLength ≤ lengthByte) where
-      stated : whole place lengthByte (readExtendedEnd t) ≡ entrySize t place
+      stated : whole place lengthByte (readExtendedEnd t) ≡ sizeAt t place
       unfolding extendedStep
       stated =
           extended-whole lengthByte (rw (le-leb firstExtendedType (type here) kind, le-leb leastLength lengthByte enough))

@@ -3,19 +3,19 @@
 -- of a route query, "given exactly when". Assumes nothing.
 use Prim.Native.Nat.{ℕ, zero, suc, _+_, _-_, _*_, _/_, _<_, _≤_}
 use mathlib.Core.Path.{_≡_, refl, sym, ap, _∙_}
-use mathlib.Core.Bool.{Bool, true, false, _&&_, true≢false, false≢true}
+use mathlib.Core.Bool.{Bool, true, false, _&&_, false≢true}
 use mathlib.Core.Logic.{_↔_}
 use mathlib.Core.List.{List, [], _∷_, _++_}
 use native.Mathlib.Omega.{arith}
 use lib.ListN.{length, getD, take, drop, length-append, List·getD-append}
-use lib.Dec.{ltb, eqb}
-use borrow.Author.Tests.{ne-eqb, ltb-true, ltb-false}
-use Rattle.mps.specs.Words.{byte, among, any, keep, each, only, joined, head}
+use lib.Dec.{ltb}
+use borrow.Author.Tests.{ltb-true, ltb-false}
+use Rattle.mps.specs.Words.{byte, among, any, keep, each, only, joined}
 use Rattle.mps.specs.Layout.{Entry, ofType, enabled, idOf, input, baseEntries}
 use Rattle.mps.specs.Rules.{Side, enabledOf}
 use Rattle.mps.specs.Judge.{tableRules, tableRefusal}
 use Rattle.mps.specs.Routes.{matches, names, pairSize, pair, pairsTo, routes, routesOf, wrongLine, roomTooSmall, routeRules, routeRefusal, routed, routesLeft}
-use Rattle.mps.specs.Answers.{routedOf, routedNumbers}
+use Rattle.mps.specs.Answers.{routedOf}
 use Rattle.mps.specs.declared.Routed.{Routed}
 use Rattle.mps.specs.declared.Routed.the-variants.{Pairs, Refused}
 use Rattle.laws.proofs.Tests.{whether}
@@ -23,6 +23,7 @@ use Rattle.laws.proofs.Lists.{keep-keep, byte-right}
 use Rattle.laws.proofs.Joined.{joined-same, joined-keep, joined-each, joined-only}
 use Rattle.laws.proofs.Refusals.{so, refusal-none, given-before, given-exactly}
 use Rattle.promises.specs.Declared.{target, declares, declared, Route, Stands}
+use Rattle.promises.proofs.Answered.{routed-refused}
 use Rattle.promises.proofs.Given.{Exactly}
 
 -- ---- In order
@@ -244,19 +245,6 @@ module _ (side : Side) (t : List ℕ) (itype bus irq : ℕ) (room : List ℕ) {n
 
 -- ---- The numbers
 
-numberOf : Routed → ℕ
-numberOf r = head 0 (routedNumbers r)
-
-number-of : (n count : ℕ) → numberOf (routedOf n count) ≡ n
-unfolding numberOf
-number-of zero count = refl
-number-of (suc n) count = refl
-
-refused-some : (m count n : ℕ) → routedOf m count ≡ Refused n → eqb m 0 ≡ false
-unfolding isPairs
-refused-some zero count n e = absurd (true≢false (ap isPairs e))
-refused-some (suc m) count n e = ne-eqb (suc m) 0 (λ q. omega arith)
-
 module _ (side : Side) (t : List ℕ) (itype bus irq : ℕ) (room : List ℕ) where
   -- Answered: no row is so.
   pub route-none : (routeRefusal side t itype bus irq room ≡ 0) ↔ (any so (routeRules side t itype bus irq room) ≡ false)
@@ -283,15 +271,10 @@ module _ (side : Side) (t : List ℕ) (itype bus irq : ℕ) (room : List ℕ) wh
       given-exactly (take 15 (routeRules side t itype bus irq room)) 19 (roomTooSmall side t itype bus irq room) []
       (omega arith) refl refl
 
-  -- A refusal is answered with its number,
+  -- A refusal is answered with its number; that it writes nothing is routes-kept (Numbered).
   pub route-refused : (n : ℕ) → (routed side t itype bus irq room ≡ Refused (suc n)) ↔ (routeRefusal side t itype bus irq room ≡ suc n)
-  unfolding routed numberOf
+  unfolding routed
   route-refused n = (
-    λ e. sym (number-of (routeRefusal side t itype bus irq room) (length (routesOf side t itype bus irq) / 2)) ∙ ap numberOf e,
+    λ e. routed-refused (routeRefusal side t itype bus irq room) (length (routesOf side t itype bus irq) / 2) (suc n) e .1,
     λ e. rw e,
   )
-
-  -- and writes nothing.
-  pub route-kept : (n : ℕ) → routed side t itype bus irq room ≡ Refused n → routesLeft side t itype bus irq room ≡ room
-  unfolding routed routesLeft
-  route-kept n r = rw (refused-some (routeRefusal side t itype bus irq room) (length (routesOf side t itype bus irq) / 2) n r)

@@ -7,12 +7,14 @@ use lib.ListN.{set, replicate}
 use Rattle.mps.specs.Words.{byte, flag}
 use Rattle.mps.specs.Sums.{sum256}
 use Rattle.mps.specs.Ranges.{inList}
-use Rattle.mps.specs.Layout.{checksumAt, baseBytes}
+use Rattle.mps.specs.Layout.{checksumAt, baseBytes, basePart}
 use Rattle.mps.specs.Judge.{judged, held}
 use Rattle.mps.specs.Rules.{ioSide}
 use Rattle.mps.specs.Routes.{routed, routesLeft}
+use Rattle.mps.specs.Addresses.{seen}
+use Rattle.mps.specs.Writing.{fieldsOf, image}
 use Rattle.mps.specs.Edits.{Edit, edited, editLeft}
-use Rattle.mps.specs.Answers.{judgedNumbers, heldNumbers, routedNumbers, editedNumbers}
+use Rattle.mps.specs.Answers.{judgedNumbers, heldNumbers, routedNumbers, seenNumbers, editedNumbers}
 use Rattle.promises.specs.Board.{contents, pointer, table, interrupt, bareHeader}
 
 pub record Row : Type 0 where
@@ -44,6 +46,28 @@ after = editLeft table (toInput9 3)
 abbrev pub dumpWithChecksum : ℕ → List ℕ
 dumpWithChecksum sum = contents ++ (set pointer 10 sum ++ table)
 
+-- The board and a modifier that adds a list to its bus, which declares nothing else.
+abbrev pub withList : ℕ → List ℕ
+withList list =
+    image
+    (record { fields = fieldsOf table; base = basePart table; extended = 0x82 ∷ 0x08 ∷ 0x00 ∷ 0x00 ∷ list ∷ 0x00 ∷ 0x00 ∷ 0x00 ∷ [] })
+
+-- Whether an I/O address is in a list, and whether that bus then sees it: no or yes, no link climbed.
+abbrev listed : ℕ → ℕ → List ℕ
+listed list address = flag (inList list address) ∷ seenNumbers (seen (withList list) 0 0 address)
+
+abbrev no : List ℕ
+no = 0 ∷ 0 ∷ 0 ∷ 0 ∷ []
+
+abbrev yes : List ℕ
+yes = 1 ∷ 0 ∷ 1 ∷ 0 ∷ []
+
+abbrev isa : ℕ
+isa = 0
+
+abbrev vga : ℕ
+vga = 1
+
 unfoldable pub cases : List Row
 cases =
     -- P1 the board's base bytes add to 0. P2 its pointer does.
@@ -57,9 +81,9 @@ cases =
     ∷ gives (editedNumbers (edited after (toInput9 3)) ++ editLeft after (toInput9 3)) (22 ∷ after)
     ∷ gives (editedNumbers (edited table (toInput9 5)) ++ editLeft table (toInput9 5)) (20 ∷ table)
     -- P8 I/O 0FFh not ISA, 100h is. P9 3BBh VGA, 3BCh not. P10 10100h in neither.
-    ∷ gives (flag (inList 0 0xff) ∷ flag (inList 0 0x100) ∷ []) (0 ∷ 1 ∷ [])
-    ∷ gives (flag (inList 1 0x3bb) ∷ flag (inList 1 0x3bc) ∷ []) (1 ∷ 0 ∷ [])
-    ∷ gives (flag (inList 0 0x10100) ∷ flag (inList 1 0x10100) ∷ []) (0 ∷ 0 ∷ [])
+    ∷ gives (listed isa 0xff ++ listed isa 0x100) (no ++ yes)
+    ∷ gives (listed vga 0x3bb ++ listed vga 0x3bc) (yes ++ no)
+    ∷ gives (listed isa 0x10100 ++ listed vga 0x10100) (no ++ no)
     -- P11 pointer checksum 80h: 2. P12 sound header of length 44, no entries: 14.
     ∷ gives (heldNumbers (held (dumpWithChecksum 0x80))) (2 ∷ [])
     ∷ gives (judgedNumbers (judged bareHeader)) (14 ∷ [])

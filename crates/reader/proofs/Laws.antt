@@ -8,10 +8,11 @@ use native.Mathlib.Nat.{add-zero}
 use lib.ListN.{length, getD, drop}
 use lib.Seq.{getD-drop}
 use lib.Dec.{leb, ltb}
-use borrow.Author.Tests.{lt-ltb, le-ltb, le-leb, lt-leb}
+use borrow.Author.Tests.{lt-ltb, le-ltb, le-leb, lt-leb, leb-true, ltb-true, ltb-false}
 use Rattle.mps.specs.Layout.{type, lastBaseType, firstExtendedType, leastLength, headerSize, baseEntryLength, extendedEntryLength}
-use Rattle.mps.specs.Reader.{readBaseEnd, readExtendedEnd, baseStep, extendedStep, whole, entrySize, found}
+use Rattle.mps.specs.Reader.{readBaseEnd, readExtendedEnd, baseStep, extendedStep, whole, sizeAt, nextPlace, found}
 use Rattle.mps.specs.declared.Found.the-variants.{Whole, Nothing}
+use Rattle.laws.proofs.Tests.{whether}
 use Rattle.laws.proofs.Small.{Bytes, bytes-drop}
 use Rattle.entries.proofs.Laws.{size-bounds}
 
@@ -66,32 +67,32 @@ module _ (t : List ℕ) (place : ℕ) where
 -- ---- The length at a place
 
 module _ (t : List ℕ) (place : ℕ) where
-  pub size-short : length t < headerSize → 0 ≡ entrySize t place
-  unfolding entrySize
+  pub size-short : length t < headerSize → 0 ≡ sizeAt t place
+  unfolding sizeAt
   size-short h = rw (lt-ltb (length t) headerSize h)
 
-  pub size-header : place < headerSize → 0 ≡ entrySize t place
-  unfolding entrySize
+  pub size-header : place < headerSize → 0 ≡ sizeAt t place
+  unfolding sizeAt
   size-header h = rw (lt-ltb place headerSize h, or-true)
 
   module _ (long : headerSize ≤ length t) (high : headerSize ≤ place) where
     behind :
-        entrySize t place
+        sizeAt t place
         ≡ cond (ltb place (readBaseEnd t)) (whole place (baseStep (drop place t)) (readBaseEnd t))
         (cond (ltb place (readExtendedEnd t)) (whole place (extendedStep (drop place t)) (readExtendedEnd t)) 0)
-    unfolding entrySize
+    unfolding sizeAt
     behind = rw (le-ltb (length t) headerSize long, le-ltb place headerSize high)
 
     module _ {base : ℕ} (e : base ≡ readBaseEnd t) where
-      pub size-base : {r : ℕ} → place < base → r ≡ whole place (baseStep (drop place t)) base → r ≡ entrySize t place
+      pub size-base : {r : ℕ} → place < base → r ≡ whole place (baseStep (drop place t)) base → r ≡ sizeAt t place
       size-base h w = rw (behind, ← e, lt-ltb place base h) w
 
       module _ {end : ℕ} (f : end ≡ readExtendedEnd t) (past : base ≤ place) where
         pub size-extended :
-            {n r : ℕ} → place < end → n ≡ extendedStep (drop place t) → r ≡ whole place n end → r ≡ entrySize t place
+            {n r : ℕ} → place < end → n ≡ extendedStep (drop place t) → r ≡ whole place n end → r ≡ sizeAt t place
         size-extended h s w = rw (behind, ← e, ← f, le-ltb place base past, lt-ltb place end h, ← s) w
 
-        pub size-past : end ≤ place → 0 ≡ entrySize t place
+        pub size-past : end ≤ place → 0 ≡ sizeAt t place
         size-past h = rw (behind, ← e, ← f, le-ltb place base past, le-ltb place end h)
 
 -- ---- An entry has fewer than 256 bytes
@@ -109,8 +110,8 @@ unfolding extendedStep
 extended-most s small =
     below (leb firstExtendedType (type s) && leb leastLength (extendedEntryLength s)) (extendedEntryLength s) 0 256 (small 1) (omega arith)
 
-pub size-most : (t : List ℕ) (place : ℕ) → Bytes t → entrySize t place < 256
-unfolding entrySize
+pub size-most : (t : List ℕ) (place : ℕ) → Bytes t → sizeAt t place < 256
+unfolding sizeAt
 size-most t place small =
     let s = drop place t in
     let base = below (leb (place + baseStep s) (readBaseEnd t)) (baseStep s) 0 256 (base-most s) (omega arith) in
@@ -120,13 +121,54 @@ size-most t place small =
     below (ltb (length t) headerSize || ltb place headerSize) 0 _ 256 (omega arith)
     (below (ltb place (readBaseEnd t)) _ _ 256 base (below (ltb place (readExtendedEnd t)) _ 0 256 extended (omega arith)))
 
+-- ---- The place after it
+
+module _ (t : List ℕ) (place : ℕ) where
+  -- No step leads out of the buffer.
+  pub next-inside : place ≤ length t → nextPlace t place ≤ length t
+  unfolding nextPlace sizeAt
+  next-inside h =
+      inside (ltb (length t) headerSize || ltb place headerSize) 0 _ (omega arith)
+      (inside (ltb place (readBaseEnd t)) _ _ (fits (baseStep (drop place t)) (readBaseEnd t) (omega arith))
+      (inside (ltb place (readExtendedEnd t)) _ 0 (fits (extendedStep (drop place t)) (readExtendedEnd t) (omega arith)) (omega arith)))
+    where
+      inside : (b : Bool) (x y : ℕ) → place + x ≤ length t → place + y ≤ length t → place + cond b x y ≤ length t
+      inside true x y a c = a
+      inside false x y a c = c
+
+      fits : (size end : ℕ) → end ≤ length t → place + whole place size end ≤ length t
+      fits size end k =
+          whether (leb (place + size) end)
+          (λ q. rw q (omega (arith, leb-true (place + size) end q)))
+          (λ q. rw q (omega arith))
+
+  past-stays : length t ≤ place → 0 ≡ sizeAt t place
+  past-stays h =
+      whether (ltb (length t) headerSize)
+      (λ s. size-short t place (ltb-true (length t) headerSize s))
+      (λ s.
+      let long = ltb-false (length t) headerSize s in
+      size-past t place long (omega arith) refl refl (omega arith) (omega arith))
+
+  -- A sum that does not overflow.
+  pub next-fits : (n : ℕ) → length t < n → place < n → place + sizeAt t place < n
+  unfolding nextPlace
+  next-fits n h k =
+      whether (ltb place (length t))
+      (λ l. omega (arith, next-inside (omega (arith, ltb-true place (length t) l))))
+      (λ l. omega (arith, past-stays (ltb-false place (length t) l)))
+
+  pub next-is : {n r : ℕ} → n ≡ sizeAt t place → r ≡ place + n → r ≡ nextPlace t place
+  unfolding nextPlace
+  next-is e f = rw (f, e)
+
 -- ---- The answer
 
-pub found-none : (t : List ℕ) (place : ℕ) {n : ℕ} → n ≡ entrySize t place → n ≡ 0 → Nothing ≡ found t place
+pub found-none : (t : List ℕ) (place : ℕ) {n : ℕ} → n ≡ sizeAt t place → n ≡ 0 → Nothing ≡ found t place
 unfolding found
 found-none t place e z = rw (← e, z)
 
-pub found-some : (t : List ℕ) (place n : ℕ) → n ≡ entrySize t place → (n ≡ 0 → ⊥) → Whole n ≡ found t place
+pub found-some : (t : List ℕ) (place n : ℕ) → n ≡ sizeAt t place → (n ≡ 0 → ⊥) → Whole n ≡ found t place
 unfolding found
 found-some t place zero e z = absurd (z refl)
 found-some t place (suc n) e z = rw (← e)

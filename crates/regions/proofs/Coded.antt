@@ -1,5 +1,5 @@
 -- What the code tests and searches is what the definitions say. Assumes nothing.
-use Prim.Native.Nat.{ℕ, _%_}
+use Prim.Native.Nat.{ℕ, _+_, _%_}
 use mathlib.Core.Path.{_≡_, refl}
 use mathlib.Core.Bool.{true, _||_, _&&_}
 use mathlib.Core.List.{List}
@@ -7,7 +7,7 @@ use native.Mathlib.Omega.{arith}
 use lib.Dec.{leb, ltb, eqb}
 use borrow.Author.Tests.{ltb-true}
 use Rattle.mps.specs.Words.{keep, head}
-use Rattle.mps.specs.Dump.{endOf, ofKind, soundRegion, kindRule, share, holds, noRegion, holding}
+use Rattle.mps.specs.Dump.{endOf, ofKind, soundRegion, kindRule, share, holds, noRegion}
 use Rattle.mps.specs.declared.Region.{Region}
 use Rattle.laws.proofs.Tests.{and-parts}
 use Rattle.regions.specs.Regions.{blank, firstOfKind}
@@ -27,25 +27,23 @@ module _ (r : Region) (e : ℕ) (ends : e ≡ endOf r) where
   unfolding soundRegion kindRule
   sound-is = rw ends
 
-  pub holds-is : (address a : ℕ) → a ≡ address → (leb (r .base) address && ltb a e) ≡ holds address r
-  unfolding holds
-  holds-is address a w = rw (ends, w)
-
   pub clash-is :
       (q : Region) (f a b : ℕ) → f ≡ endOf q → a ≡ r .base → b ≡ q .base
       → (ltb 0 (r .size) && ltb 0 (q .size) && ltb a f && ltb b e || leb 1 (r .kind) && leb (r .kind) 3 && eqb (q .kind) (r .kind)) ≡ clashing r q
   unfolding clashing share
   clash-is q f a b g v w = rw (ends, g, v, w)
 
+-- a, b and c are the address, the base and the size as wider numbers.
+pub holds-is :
+    (base size address a b c : ℕ) → a ≡ address → b ≡ base → c ≡ size
+    → (leb base address && ltb a (b + c)) ≡ (leb base address && ltb address (base + size))
+holds-is base size address a b c v w u = rw (v, w, u)
+
 -- ---- The searches
 
 pub kind-is : (k : ℕ) (rs : List Region) → head blank (keep (ofKind k) rs) ≡ firstOfKind k rs
 unfolding firstOfKind
 kind-is k rs = refl
-
-pub holding-is : (address : ℕ) (rs : List Region) → head (noRegion address) (keep (holds address) rs) ≡ holding address rs
-unfolding holding
-holding-is address rs = refl
 
 -- A blank record holds no address.
 pub holding-blank : (address : ℕ) → holds address blank ≡ true → blank ≡ noRegion address

@@ -1,5 +1,7 @@
 pub mod Firsts
 pub mod Places
+pub mod Search
+mod Walk
 pub mod Coded
 pub mod Eight
 pub mod Once

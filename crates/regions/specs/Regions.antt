@@ -1,11 +1,11 @@
 -- The regions of a dump as the code holds them: eight records by value, the regions of the dump first.
-use Prim.Native.Nat.{ℕ}
+use Prim.Native.Nat.{ℕ, suc}
 use mathlib.Core.Bool.{true, false, cond}
-use mathlib.Core.List.{List, [], _++_}
+use mathlib.Core.List.{List, [], _∷_, _++_}
 use lib.ListN.{take, replicate}
 use Rattle.mps.specs.Words.{keep, head}
 use Rattle.mps.specs.Layout.{regionsMost}
-use Rattle.mps.specs.Dump.{ofKind, noRegion, regions, soundDump}
+use Rattle.mps.specs.Dump.{ofKind, noRegion, regions, soundDump, holds}
 use Rattle.mps.specs.declared.Region.{Region}
 use Rattle.regions.specs.declared.Contents.{Contents}
 
@@ -24,3 +24,9 @@ contents d = cond (soundDump d) (record { wrong = false; all = eight (regions d)
 -- The first region of a kind, a blank one where none is listed.
 unfoldable pub firstOfKind : ℕ → List Region → Region
 firstOfKind kind rs = head blank (keep (ofKind kind) rs)
+
+-- "The list of regions is searched for the one that holds an address": the place of the first that does, or how many there
+-- are.
+unfoldable pub placeHolding : ℕ → List Region → ℕ
+placeHolding address [] = 0
+placeHolding address (r ∷ rs) = cond (holds address r) 0 (suc (placeHolding address rs))

@@ -1,0 +1,34 @@
+-- Demand 1: a call "ends with an answer or a numbered refusal of document 01". Which numbers each call may give, as the
+-- paper's paragraph behind its table says.
+use Prim.Native.Nat.{ℕ}
+use mathlib.Core.List.{List, [], _∷_, _++_}
+
+-- "A bare table in a lent buffer is judged as one region holding the buffer: numbers 5 to 18."
+abbrev pub tableNumbers : List ℕ
+tableNumbers = 5 ∷ 6 ∷ 7 ∷ 8 ∷ 9 ∷ 10 ∷ 11 ∷ 12 ∷ 13 ∷ 14 ∷ 15 ∷ 16 ∷ 17 ∷ 18 ∷ []
+
+abbrev pub pointerNumbers : List ℕ
+pointerNumbers = 1 ∷ 2 ∷ 3 ∷ 4 ∷ []
+
+-- "Edits test the table, then 20 to 23": 23 is another answer, with its inner number.
+abbrev pub editNumbers : List ℕ
+editNumbers = tableNumbers ++ (20 ∷ 21 ∷ 22 ∷ [])
+
+-- "queries test the table, then 24, then 19": an address query has no room.
+abbrev pub addressNumbers : List ℕ
+addressNumbers = tableNumbers ++ (24 ∷ [])
+
+abbrev pub routeNumbers : List ℕ
+routeNumbers = tableNumbers ++ (24 ∷ 19 ∷ [])
+
+-- "the listing tests 1 to 18, then 19"
+abbrev pub listNumbers : List ℕ
+listNumbers = pointerNumbers ++ (tableNumbers ++ (19 ∷ []))
+
+-- "It refuses 7 if the base would pass 4,096, 13 if the extended part would, then 19 ..; then the finished image is judged":
+-- the header that the writer makes passes 5 to 9.
+abbrev pub laterNumbers : List ℕ
+laterNumbers = 10 ∷ 11 ∷ 12 ∷ 13 ∷ 14 ∷ 15 ∷ 16 ∷ 17 ∷ 18 ∷ []
+
+abbrev pub writeNumbers : List ℕ
+writeNumbers = 7 ∷ 13 ∷ 19 ∷ laterNumbers
