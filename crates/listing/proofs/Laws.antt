@@ -2,17 +2,17 @@
 use Prim.Native.Nat.{ℕ, zero, suc, _+_, _≤_, _<_}
 use mathlib.Core.Path.{_≡_, refl, ap, sym, _∙_}
 use mathlib.Core.Bool.{true, false}
-use mathlib.Core.List.{List, [], _∷_, _++_}
+use mathlib.Core.List.{List, [], _∷_, _++_, append-assoc}
 use native.Mathlib.Omega.{arith}
 use lib.ListN.{length, length-append}
 use lib.Dec.{ltb, leb}
 use lib.Seq.{sets}
 use borrow.Author.Tests.{lt-ltb, le-ltb, ne-eqb}
-use Rattle.mps.specs.Words.{text, part, cut, joined, among, each, any, first, head}
+use Rattle.mps.specs.Words.{text, part, joined, among, each, any, first, head}
 use Rattle.mps.specs.Sums.{total}
 use Rattle.mps.specs.Refusals.{Rule, _when_, refusal}
 use Rattle.mps.specs.Answers.{writtenNumbers}
-use Rattle.mps.specs.Layout.{headerSize, baseLength, extendedLength, entryCount, baseEntryLength, extendedEntryLength, baseEntries, extendedEntries}
+use Rattle.mps.specs.Layout.{baseLength, extendedLength, entryCount, baseEntries, extendedEntries}
 use Rattle.mps.specs.Layout.{feature1}
 use Rattle.mps.specs.Pointer.{pointerBytes, isDefault, imcrOf}
 use Rattle.mps.specs.Judge.{pointerRules, tableRules, dumpRules, dumpRefusal}
@@ -28,7 +28,7 @@ use Rattle.laws.proofs.Stores.{sets-past, sets-at-start}
 use Rattle.text.proofs.Laws.{length-decimal, length-hex, length-line}
 use Rattle.lines.specs.Wrote.{Wrote}
 use Rattle.lines.proofs.Laws.{then}
-use Rattle.listing.specs.Fits.{fitted, fitLeft, tableText, frameLength}
+use Rattle.listing.specs.Fits.{fitted, fitLeft, tableText, frameLength, entriesText}
 
 -- ---- A room and an answer
 
@@ -66,16 +66,22 @@ module _ (w room v : List ℕ) {n : ℕ} (m : v ≡ sets [] 0 w) (e : n ≡ leng
 
 -- ---- The listing of a table from its parts
 
+pub text-is :
+    (pointer imcr address : ℕ) (t : List ℕ)
+    → let head = tableLine address (baseLength t) (extendedLength t) (entryCount t) in
+    pointerLine pointer imcr ++ (head ++ (entriesText t ++ endLine)) ≡ tableText pointer imcr address t
+unfolding tableText tableLines entriesText
+text-is pointer imcr address t =
+    rw (append-assoc (joined baseLine (baseEntries t)) (joined extendedLine (extendedEntries t)) endLine)
+
 pub table-is :
-    {o u v x y z : List ℕ} {a b c d e : ℕ} (pointer imcr address : ℕ) (t : List ℕ) {base extended count : ℕ}
+    {o u v x y : List ℕ} {a b c d : ℕ} (pointer imcr address : ℕ) (t : List ℕ) {base extended count : ℕ}
     → base ≡ baseLength t → extended ≡ extendedLength t → count ≡ entryCount t
     → Wrote o 0 (pointerLine pointer imcr) u a → Wrote u a (tableLine address base extended count) v b
-    → Wrote v b (joined baseLine (cut baseEntryLength 0 (part headerSize base t))) x c
-    → Wrote x c (joined extendedLine (cut extendedEntryLength 0 (part base (base + extended) t))) y d
-    → Wrote y d endLine z e → (e ≡ length (tableText pointer imcr address t)) × (z ≡ sets o 0 (tableText pointer imcr address t))
-unfolding tableText tableLines baseEntries extendedEntries
-table-is pointer imcr address t i j k l m n p q =
-    let w = rw (i, j, k) at (then l (then m (then n (then p q)))) in
+    → Wrote v b (entriesText t) x c → Wrote x c endLine y d
+    → (d ≡ length (tableText pointer imcr address t)) × (y ≡ sets o 0 (tableText pointer imcr address t))
+table-is pointer imcr address t i j k l m n p =
+    let w = rw (i, j, k, text-is pointer imcr address t) at (then l (then m (then n p))) in
     (omega (arith, w .place), w .text)
 
 -- ---- How long it is
@@ -100,40 +106,33 @@ frame-is pointer imcr address base extended count e f g h =
     )
 
 pub table-width :
-    (pointer imcr address : ℕ) (t : List ℕ) {base extended count f a b : ℕ}
+    (pointer imcr address : ℕ) (t : List ℕ) {base extended count f n : ℕ}
     → base ≡ baseLength t → extended ≡ extendedLength t → count ≡ entryCount t
-    → f ≡ frameLength pointer imcr address base extended count
-    → a ≡ length (joined baseLine (cut baseEntryLength 0 (part headerSize base t)))
-    → b ≡ length (joined extendedLine (cut extendedEntryLength 0 (part base (base + extended) t)))
-    → f + a + b ≡ length (tableText pointer imcr address t)
-unfolding tableText tableLines baseEntries extendedEntries frameLength
-table-width pointer imcr address t i j k l m n =
+    → f ≡ frameLength pointer imcr address base extended count → n ≡ length (entriesText t)
+    → f + n ≡ length (tableText pointer imcr address t)
+unfolding frameLength
+table-width pointer imcr address t i j k l m =
     let p = pointerLine pointer imcr in
     let h = tableLine address (baseLength t) (extendedLength t) (entryCount t) in
-    let x = joined baseLine (cut baseEntryLength 0 (part headerSize (baseLength t) t)) in
-    let y = joined extendedLine (cut extendedEntryLength 0 (part (baseLength t) (baseLength t + extendedLength t) t)) in
-    let l' = rw (i, j, k) at l in
-    let m' = rw i at m in
-    let n' = rw (i, j) at n in
+    let x = entriesText t in
+    let f = rw (i, j, k) at l in
     omega (
       arith,
-      length-append p (h ++ (x ++ (y ++ endLine))),
-      length-append h (x ++ (y ++ endLine)),
-      length-append x (y ++ endLine),
-      length-append y endLine,
-      l',
-      m',
-      n',
+      ap length (text-is pointer imcr address t),
+      length-append p (h ++ (x ++ endLine)),
+      length-append h (x ++ endLine),
+      length-append x endLine,
+      f,
     )
 
 -- ---- The dump's number and the room's
 
 -- No rule of a dump gives 0, and none gives 19 or more.
-pub dump-given : (d : List ℕ) → (among 0 (each number (dumpRules d)) ≡ false) × (any (λ (r : Rule). leb 19 (number r)) (dumpRules d) ≡ false)
+dump-given : (d : List ℕ) → (among 0 (each number (dumpRules d)) ≡ false) × (any (λ (r : Rule). leb 19 (number r)) (dumpRules d) ≡ false)
 unfolding dumpRules pointerRules tableRules among each any
 dump-given d = whether (isDefault d) (λ t. rw t (refl, refl)) (λ f. rw f (refl, refl))
 
-dump-below : (d : List ℕ) → dumpRefusal d < 19
+pub dump-below : (d : List ℕ) → dumpRefusal d < 19
 unfolding dumpRefusal
 dump-below d = refusal-below 19 (dumpRules d) (omega arith) (dump-given d .1)
 

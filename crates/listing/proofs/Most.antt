@@ -7,12 +7,12 @@ use lib.ListN.{length, drop, length-take}
 use lib.Dec.{eqb}
 use Rattle.mps.specs.Words.{text, flag, each}
 use Rattle.mps.specs.Sums.{total}
-use Rattle.mps.specs.Layout.{Entry, ofType, processorType, busType, ioApicType, ioInterruptType, mappingType, hierarchyType, modifierType}
+use Rattle.mps.specs.Layout.{Entry, ofType, processorType, busType, ioApicType, ioInterruptType}
 use Rattle.mps.specs.Layout.{idOf, version, enabled, bootstrap, nameOf, addressOf, extendedEntryLength, type}
 use Rattle.mps.specs.Layout.{interruptType, sourceBus, sourceIrq, polarity, trigger, destination, input}
 use Rattle.mps.specs.Layout.{extendedBus, spaceKind, spaceBase, spaceLength, parentBus, subtractiveBit, takesBit, rangeList}
 use Rattle.mps.specs.Listing.{decimal, hex, unpadded, onOff, bootAp, interruptName}
-use Rattle.mps.specs.Listing.{cpuLine, busLine, ioApicLine, interruptLine, baseLine, mapLine, treeLine, modLine, skipLine, extendedLine}
+use Rattle.mps.specs.Listing.{cpuLine, busLine, ioApicLine, interruptLine, baseLine, mapLine, treeLine, modLine, skipLine}
 use Rattle.mps.specs.Listing.{pointerLine, tableLine, endLine, defaultLine, refusedLine}
 use Rattle.text.proofs.Laws.{length-decimal-most, length-hex, length-unpadded, length-line}
 
@@ -154,13 +154,6 @@ skip-most e =
       length-decimal-most (type e),
       length-decimal-most (extendedEntryLength e),
     )
-
-pub extended-most : (e : Entry) → length (extendedLine e) ≤ 50
-unfolding extendedLine
-extended-most e =
-    choice 50 (ofType mappingType e) (mapLine e) _ (map-most e)
-    (choice 50 (ofType hierarchyType e) (treeLine e) _ (omega (arith, tree-most e))
-    (choice 50 (ofType modifierType e) (modLine e) (skipLine e) (omega (arith, mod-most e)) (omega (arith, skip-most e))))
 
 -- ---- The other lines
 

@@ -10,82 +10,46 @@ use mps::Held;
 use mps::Written;
 use mps::layout;
 ghost use mathlib.Core.Path.{_≡_};
-ghost use Prim.Native.Nat.{ℕ, _+_, _*_, _≤_, _<_, min, max};
-ghost use lib.ListN.{length, drop};
+ghost use Prim.Native.Nat.{ℕ, _≤_};
+ghost use lib.ListN.{length};
 ghost use lib.Seq.{sets};
-ghost use Rattle.mps.specs.Words.{cut, joined};
-ghost use mathlib.Core.Bool.{cond};
-ghost use lib.Dec.{eqb};
-ghost use Rattle.mps.specs.Layout.{processorType, processorSize, entrySize, baseEntryLength, extendedEntryLength};
 ghost use Rattle.mps.specs.Judge.{tableRefusal};
-ghost use Rattle.mps.specs.Listing.{listed, listLeft, printed, printLeft, baseLine, extendedLine, defaultLine, refusedLine};
+ghost use Rattle.mps.specs.Listing.{listed, listLeft, printed, printLeft, defaultLine, refusedLine};
 ghost use Rattle.lines.specs.Wrote.{Wrote};
-ghost use Rattle.listing.specs.Fits.{fitted, fitLeft, tableText, frameLength};
+ghost use Rattle.listing.specs.Fits.{fitted, fitLeft, tableText, frameLength, entryLine, entriesText};
 
 // "answer longer than the lent room"
 const TOO_LONG: u8 = 19;
 
-// The length of a base entry, by its type.
-fn base_size(kind: u8) -> usize
-    ensures { λ r. ⌜ r ≡ cond (eqb kind processorType) processorSize entrySize ⌝ }
+// The line of an entry, by its type; answers its length.
+fn put_line(out: &mut [u8], at: usize, e: &[u8]) -> usize
+    ensures { λ r. ⌜ r ≡ length (entryLine (now (e .entry))) ⌝ }
+    ensures { λ _. ⌜ now (out .exit) ≡ sets (now (out .entry)) at (entryLine (now (e .entry))) ⌝ }
 {
-    if kind == layout::PROCESSOR_TYPE {
-        return layout::PROCESSOR_SIZE;
+    if numbers::byte(e, 0) < layout::MAPPING_TYPE {
+        return lines::base::line(out, at, e);
     }
-    layout::ENTRY_SIZE
+    lines::extended::line(out, at, e)
 }
 
-// Where an entry ends: behind its length, or at the end of the bytes where that is less.
-fn ending(s: &[u8], at: usize, size: usize) -> usize
-    requires { ⌜ at ≤ length (now s) ⌝ }
-    ensures { λ r. ⌜ r ≡ min (at + size) (length (now (s .entry))) ⌝ }
+// The lines of all entries, from a place of the room on; answers the place behind them. Behind the last entry the
+// reader's place stays. The next place is asked for in the turn that needs it, so that the compiler knows by an entry's
+// type how long it is where its line is made. The bound on the room's place only keeps sums from overflowing; any larger
+// one would do.
+fn put_entries(out: &mut [u8], at: usize, t: &[u8]) -> usize
+    requires { ⌜ (tableRefusal (now t) ≡ 0) × (at ≤ 1000) ⌝ }
+    ensures { λ r. ⌜ Wrote (now (out .entry)) at (entriesText (now (t .entry))) (now (out .exit)) r ⌝ }
 {
-    if s.len() - at < size {
-        return s.len();
+    let mut put = at;
+    let mut place = layout::HEADER_SIZE;
+    loop {
+        let next = reader::after(t, place);
+        if next <= place {
+            return put;
+        }
+        put += put_line(out, put, &t[place..next]);
+        place = next;
     }
-    at + size
-}
-
-// The lines of base entries from a place on; answers the place behind them. The bounds on places and lengths only keep
-// sums from overflowing; any larger ones would do.
-fn put_base(out: &mut [u8], at: usize, s: &[u8]) -> usize
-    requires { ⌜ (at ≤ 1000) × (length (now s) ≤ 65535) ⌝ }
-    ensures { λ r. ⌜ Wrote (now (out .entry)) at (joined baseLine (cut baseEntryLength 0 (now (s .entry)))) (now (out .exit)) r ⌝ }
-    ensures { λ r. ⌜ r ≤ at + 64 * length (now (s .entry)) ⌝ }
-{
-    let mut place = at;
-    let mut i = 0;
-    while i < s.len() {
-        let end = ending(s, i, base_size(s[i]));
-        place += lines::base::line(out, place, &s[i..end]);
-        i = end;
-    }
-    place
-}
-
-// An entry of no length passes one byte, as `cut` has it, so that every walk ends; no judged table has one.
-fn behind(at: usize, end: usize) -> usize
-    requires { ⌜ at < 65536 ⌝ }
-    ensures { λ r. ⌜ r ≡ max (at + 1) end ⌝ }
-{
-    if at < end { end } else { at + 1 }
-}
-
-// The lines of extended entries.
-fn put_extended(out: &mut [u8], at: usize, s: &[u8]) -> usize
-    requires { ⌜ (at ≤ 5000000) × (length (now s) ≤ 65535) ⌝ }
-    ensures { λ r. ⌜ Wrote (now (out .entry)) at (joined extendedLine (cut extendedEntryLength 0 (now (s .entry)))) (now (out .exit)) r ⌝ }
-    ensures { λ r. ⌜ r ≤ at + 64 * length (now (s .entry)) ⌝ }
-{
-    let mut place = at;
-    let mut i = 0;
-    while i < s.len() {
-        let size = numbers::wide(numbers::byte(s, i + layout::ENTRY_LENGTH)) as usize;
-        let end = ending(s, i, size);
-        place += lines::extended::line(out, place, &s[i..end]);
-        i = behind(i, end);
-    }
-    place
 }
 
 // The whole listing of an accepted table, from the first byte of the room.
@@ -97,46 +61,37 @@ fn put_table(out: &mut [u8], t: &[u8], pointer: u32, imcr: u8, address: u32) -> 
     let base = numbers::le16(t, layout::BASE_LENGTH);
     let extended = numbers::le16(t, layout::EXTENDED_LENGTH);
     let count = numbers::le16(t, layout::ENTRY_COUNT);
-    let base_end = base as usize;
-    let end = base_end + extended as usize;
     let a = lines::frame::pointer(out, 0, pointer, imcr);
     let b = a + lines::frame::table(out, a, address, base, extended, count);
-    let c = put_base(out, b, &t[layout::HEADER_SIZE..base_end]);
-    let d = put_extended(out, c, &t[base_end..end]);
-    d + lines::frame::end(out, d)
+    let c = put_entries(out, b, t);
+    c + lines::frame::end(out, c)
 }
 
-// How many bytes the lines of base entries have. As above, the bound on the length keeps sums from overflowing.
-fn base_width(s: &[u8]) -> usize
-    requires { ⌜ length (now s) ≤ 65535 ⌝ }
-    ensures { λ r. ⌜ r ≡ length (joined baseLine (cut baseEntryLength 0 (now (s .entry)))) ⌝ }
-    ensures { λ r. ⌜ r ≤ 64 * length (now (s .entry)) ⌝ }
+// How many bytes the line of an entry has.
+fn line_width(e: &[u8]) -> usize
+    ensures { λ r. ⌜ r ≡ length (entryLine (now (e .entry))) ⌝ }
 {
-    let mut sum = 0;
-    let mut i = 0;
-    while i < s.len() {
-        let end = ending(s, i, base_size(s[i]));
-        sum += widths::base(&s[i..end]);
-        i = end;
+    if numbers::byte(e, 0) < layout::MAPPING_TYPE {
+        return widths::base(e);
     }
-    sum
+    widths::extended(e)
 }
 
-// .. and of extended entries.
-fn extended_width(s: &[u8]) -> usize
-    requires { ⌜ length (now s) ≤ 65535 ⌝ }
-    ensures { λ r. ⌜ r ≡ length (joined extendedLine (cut extendedEntryLength 0 (now (s .entry)))) ⌝ }
-    ensures { λ r. ⌜ r ≤ 64 * length (now (s .entry)) ⌝ }
+// .. and the lines of all entries: the same walk.
+fn entries_width(t: &[u8]) -> usize
+    requires { ⌜ tableRefusal (now t) ≡ 0 ⌝ }
+    ensures { λ r. ⌜ r ≡ length (entriesText (now (t .entry))) ⌝ }
 {
     let mut sum = 0;
-    let mut i = 0;
-    while i < s.len() {
-        let size = numbers::wide(numbers::byte(s, i + layout::ENTRY_LENGTH)) as usize;
-        let end = ending(s, i, size);
-        sum += widths::extended(&s[i..end]);
-        i = behind(i, end);
+    let mut place = layout::HEADER_SIZE;
+    loop {
+        let next = reader::after(t, place);
+        if next <= place {
+            return sum;
+        }
+        sum += line_width(&t[place..next]);
+        place = next;
     }
-    sum
 }
 
 // .. and the lines around them: "pointer", "imcr", "table", "end", twice eight digits, and ten bytes behind words. No
@@ -156,12 +111,7 @@ fn table_width(t: &[u8], imcr: u8) -> usize
     let base = numbers::le16(t, layout::BASE_LENGTH);
     let extended = numbers::le16(t, layout::EXTENDED_LENGTH);
     let count = numbers::le16(t, layout::ENTRY_COUNT);
-    let base_end = base as usize;
-    let end = base_end + extended as usize;
-    let frame = frame_width(imcr, base, extended, count);
-    let a = base_width(&t[layout::HEADER_SIZE..base_end]);
-    let b = extended_width(&t[base_end..end]);
-    frame + a + b
+    frame_width(imcr, base, extended, count) + entries_width(t)
 }
 
 // Six bytes a byte of the base and nine a byte of the extended part are enough: a base entry has at least eight bytes and a

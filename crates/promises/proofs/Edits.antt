@@ -13,7 +13,7 @@ use Rattle.mps.specs.Words.{among, any, each, head}
 use Rattle.mps.specs.Refusals.{Rule, _when_, refusal, innerNumber}
 use Rattle.mps.specs.Answers.{editedOf, editedNumbers}
 use Rattle.mps.specs.Judge.{tableRules, tableRefusal}
-use Rattle.mps.specs.Edits.{Edit, standing, editedTable, noPlace, otherShape, changed, innerRefusal, editRules, editRefusal, edited, editLeft, entryRules}
+use Rattle.mps.specs.Edits.{Edit, standing, editedTable, noPlace, otherShape, changed, innerRefusal, editRules, editRefusal, edited, editLeft}
 use Rattle.mps.specs.declared.Edited.{Edited}
 use Rattle.mps.specs.declared.Edited.the-variants.{Done, Refused, Inner}
 use Rattle.laws.proofs.Tests.{whether, or-parts}

@@ -21,7 +21,7 @@ use Rattle.mps.specs.Layout.{extendedBus, rangeList, rangeListMost}
 use Rattle.mps.specs.Table.{entryFault, walkFrom}
 use Rattle.mps.specs.Rules.{idsOf, isListed, unknownName, wrongBuses, ioSide, localSide, wrongInterrupt, wrongInput, wrongOnSide, wrongInterrupts}
 use Rattle.mps.specs.Rules.{wrongMapping, wrongHierarchy, wrongModifier, links, circle, wrongSpaces}
-use Rattle.mps.specs.Judge.{tableRules, tableRefusal, dumpRules, dumpRefusal, held}
+use Rattle.mps.specs.Judge.{tableRules, tableRefusal, dumpRefusal, held}
 use Rattle.mps.specs.Listing.{line, onOff, bootAp, interruptName, cpuLine, busLine, ioApicLine, interruptLine, mapLine, treeLine, modLine, skipLine}
 use Rattle.mps.specs.Listing.{baseLine, extendedLine, defaultLine, pointerLine, tableLine, endLine, tableLines, listing}
 use Rattle.mps.specs.Listing.{refusedLine, programOutput, listRefusal, listed, listLeft}
@@ -29,7 +29,7 @@ use Rattle.mps.specs.declared.Held.{Held}
 use Rattle.mps.specs.declared.Held.the-variants.{Default, Table, Refused}
 use Rattle.mps.specs.declared.Written.the-variants.{Bytes as Written·Bytes}
 use Rattle.laws.proofs.Tests.{whether, or-parts}
-use Rattle.laws.proofs.Refusals.{first-none, refusal-pass, refusal-below}
+use Rattle.laws.proofs.Refusals.{first-none, refusal-pass}
 use Rattle.laws.proofs.Lists.{any-keep}
 use Rattle.laws.proofs.Joined.{joined-append, joined-same, joined-each}
 use Rattle.laws.proofs.Small.{Bytes, Small, small-none, small-more, small-cut, bytes-part, any-or}
@@ -38,7 +38,7 @@ use Rattle.accepted.proofs.Sound.{sound, sound-rest}
 use Rattle.dump.proofs.Laws.{held-table, held-default, held-number}
 use Rattle.dump.proofs.Narrow.{default-narrow, table-narrow}
 use Rattle.listing.specs.Fits.{tableText}
-use Rattle.listing.proofs.Laws.{table-text, default-text, dump-given, list-number}
+use Rattle.listing.proofs.Laws.{table-text, default-text, dump-below, list-number}
 use Rattle.promises.specs.Shown.{Field, word, number, shown, Again, visible, readable, Readable, shownLines, lineOf}
 use Rattle.promises.specs.Shown.{states, ranks, kinds, interruptFields, baseFields, extendedFields, tableFields}
 use Rattle.promises.specs.Shown.{linesTold, readLines}
@@ -379,8 +379,7 @@ module _ (d : List ℕ) where
       cases (Refused n) e = refused-output n e
 
   refused-small : (n : ℕ) → held d ≡ Refused n → n < 19
-  unfolding dumpRefusal
-  refused-small n e = omega (arith, held-number d n e, refusal-below 19 (dumpRules d) (omega arith) (dump-given d .1))
+  refused-small n e = omega (arith, held-number d n e, dump-below d)
 
   module _ (small : Bytes d) where
     -- each of these is readable: its number is small enough for its digits, its name one of MPS Table 4-8,

@@ -28,8 +28,8 @@ add-result c = search needs
 
 returns : tie.Need-returns
 returns c pointer imcr address =
-    let t = c .before .before .before .args .t .now in
-    omega (arith, c .le162 .ensures, c .before .le16 .ensures, table-longest t pointer imcr address (c .before .before .before .pre))
+    let s = c .before .before .before in
+    omega (arith, c .le162 .ensures, c .before .le16 .ensures, table-longest (s .args .t .now) (s .pre) pointer imcr address)
 
 pub bound-spec : {M : Type 1} → statement M
 bound-spec =
