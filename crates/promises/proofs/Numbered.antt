@@ -91,9 +91,9 @@ unfolding earlyRefusal
 early-is p room = refl
 
 -- A refusal's number is not 0, so it is one of the others.
-among-rest : {m : ℕ} (n : ℕ) (ns : List ℕ) → (0 < m) × (m ≡ n) → among m (0 ∷ ns) ≡ true → among n ns ≡ true
+among-given : {m : ℕ} (n : ℕ) (ns : List ℕ) → (0 < m) × (m ≡ n) → among m (0 ∷ ns) ≡ true → among n ns ≡ true
 unfolding among
-among-rest {m} n ns p e = rw (p .1, ne-eqb n 0 (λ z. omega (arith, p .0, p .1, z))) at e
+among-given {m} n ns p e = rw (p .1, ne-eqb n 0 (λ z. omega (arith, p .0, p .1, z))) at e
 
 among-front : (x y : ℕ) (a : List ℕ) → among x (a ++ (y ∷ [])) ≡ true → eqb x y ≡ false → among x a ≡ true
 unfolding among
@@ -110,27 +110,27 @@ module _ (t : List ℕ) (n : ℕ) where
 
   pub judge-numbered : judged t ≡ Judged·Refused n → among n tableNumbers ≡ true
   unfolding judged
-  judge-numbered e = among-rest n tableNumbers (judged-refused (tableRefusal t) n e) table-among
+  judge-numbered e = among-given n tableNumbers (judged-refused (tableRefusal t) n e) table-among
 
   pub examine-numbered : examined t ≡ Examined·Refused n → among n tableNumbers ≡ true
   unfolding examined
-  examine-numbered e = among-rest n tableNumbers (examined-refused (tableRefusal t) (sections t) n e) table-among
+  examine-numbered e = among-given n tableNumbers (examined-refused (tableRefusal t) (sections t) n e) table-among
 
   pub parts-numbered : parted t ≡ Parted·Refused n → among n tableNumbers ≡ true
   unfolding parted
-  parts-numbered e = among-rest n tableNumbers (parted-refused (tableRefusal t) (baseLength t) (extendedEnd t) n e) table-among
+  parts-numbered e = among-given n tableNumbers (parted-refused (tableRefusal t) (baseLength t) (extendedEnd t) n e) table-among
 
   pub address-numbered : (bus kind address : ℕ) → seen t bus kind address ≡ Seen·Refused n → among n addressNumbers ≡ true
   unfolding seen addressRules tableRules each
   address-numbered bus kind address e =
-      among-rest n addressNumbers (seen-refusal t bus kind address (refusal (addressRules t bus kind)) n e)
+      among-given n addressNumbers (seen-refusal t bus kind address (refusal (addressRules t bus kind)) n e)
       (refusal-among (addressRules t bus kind))
 
   pub routes-numbered :
       (side : Side) (itype bus irq : ℕ) (room : List ℕ) → routed side t itype bus irq room ≡ Routed·Refused n → among n routeNumbers ≡ true
   unfolding routed routeRefusal routeRules tableRules each
   routes-numbered side itype bus irq room e =
-      among-rest n routeNumbers (routed-refused (routeRefusal side t itype bus irq room) (length (routesOf side t itype bus irq) / pairSize) n e)
+      among-given n routeNumbers (routed-refused (routeRefusal side t itype bus irq room) (length (routesOf side t itype bus irq) / pairSize) n e)
       (refusal-among (routeRules side t itype bus irq room))
 
   -- "A refusal returns its number alone, except 23.": the inner number is another answer (Edits, inner-number).
@@ -139,29 +139,29 @@ module _ (t : List ℕ) (n : ℕ) where
   edit-numbered e r =
       let k = edited-refused (editRefusal t e) (innerRefusal t e) n r in
       among-front n innerNumber editNumbers
-      (among-rest n (editNumbers ++ (innerNumber ∷ [])) (k .0, k .1) (refusal-among (editRules t e))) (k .2)
+      (among-given n (editNumbers ++ (innerNumber ∷ [])) (k .0, k .1) (refusal-among (editRules t e))) (k .2)
 
 module _ (d : List ℕ) (n : ℕ) where
   pub find-numbered : pointed d ≡ Held·Refused n → among n pointerNumbers ≡ true
   unfolding pointed pointerRules each
-  find-numbered e = among-rest n pointerNumbers (held-refused d (refusal (pointerRules d)) n e) (refusal-among (pointerRules d))
+  find-numbered e = among-given n pointerNumbers (held-refused d (refusal (pointerRules d)) n e) (refusal-among (pointerRules d))
 
   pub read-numbered : held d ≡ Held·Refused n → among n (pointerNumbers ++ tableNumbers) ≡ true
   unfolding held dumpRefusal dumpRules pointerRules each
   read-numbered e =
-      among-rest n (pointerNumbers ++ tableNumbers) (held-refused d (dumpRefusal d) n e)
+      among-given n (pointerNumbers ++ tableNumbers) (held-refused d (dumpRefusal d) n e)
       (rw (← append-nil (only (not (isDefault d)) (tableRules (tableIn d)))) (dump-among d (not (isDefault d)) []))
 
   pub list-numbered : (room : List ℕ) → listed d room ≡ Written·Refused n → among n listNumbers ≡ true
   unfolding listed listRefusal dumpRules pointerRules each
   list-numbered room e =
-      among-rest n listNumbers (written-refused (listRefusal d room) (length (listing d)) n e)
+      among-given n listNumbers (written-refused (listRefusal d room) (length (listing d)) n e)
       (dump-among d (not (isDefault d)) (roomNumber when ltb (length room) (length (listing d)) ∷ []))
 
   pub print-numbered : (room : List ℕ) → printed d room ≡ Written·Refused n → among n (19 ∷ []) ≡ true
   unfolding printed printRefusal each
   print-numbered room e =
-      among-rest n (19 ∷ []) (written-refused (printRefusal d room) (length (programOutput d)) n e)
+      among-given n (19 ∷ []) (written-refused (printRefusal d room) (length (programOutput d)) n e)
       (refusal-among (roomNumber when ltb (length room) (length (programOutput d)) ∷ []))
 
 -- An image whose parts fit passes 5 to 9: its length, its signature, its base length, its sum and its revision are made so.
@@ -208,7 +208,7 @@ module _ (p : Parts) (room : List ℕ) (early : earlyRefusal p room ≡ 0) where
 pub write-numbered : (p : Parts) (room : List ℕ) (n : ℕ) → written p room ≡ Written·Refused n → among n writeNumbers ≡ true
 unfolding written writeRefusal each tableRules
 write-numbered p room n e =
-    among-rest n writeNumbers (written-refused (writeRefusal p room) (imageSize p) n e)
+    among-given n writeNumbers (written-refused (writeRefusal p room) (imageSize p) n e)
     (whether (eqb (earlyRefusal p room) 0)
     (λ z.
     let none = eqb-true (earlyRefusal p room) 0 z in

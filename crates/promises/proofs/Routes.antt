@@ -1,27 +1,28 @@
 -- Demand 2: "The listing, the routes and the addresses seen by a bus are those the table declares", of the routes: a pair is
 -- in the answer exactly when two entries of the table declare it, and the pairs stand in the order of the table. The numbers
 -- of a route query, "given exactly when". Assumes nothing.
-use Prim.Native.Nat.{ℕ, zero, suc, _+_, _-_, _*_, _/_, _<_, _≤_}
+use Prim.Native.Nat.{ℕ, zero, suc, _+_, _-_, _*_, _/_, _%_, _<_, _≤_}
 use mathlib.Core.Path.{_≡_, refl, sym, ap, _∙_}
-use mathlib.Core.Bool.{Bool, true, false, _&&_, false≢true}
+use mathlib.Core.Bool.{Bool, true, false, not, _&&_, _||_, false≢true}
 use mathlib.Core.Logic.{_↔_}
 use mathlib.Core.List.{List, [], _∷_, _++_}
 use native.Mathlib.Omega.{arith}
 use lib.ListN.{length, getD, take, drop, length-append, List·getD-append}
-use lib.Dec.{ltb}
+use lib.Dec.{ltb, eqb}
 use borrow.Author.Tests.{ltb-true, ltb-false}
-use Rattle.mps.specs.Words.{byte, among, any, keep, each, only, joined}
-use Rattle.mps.specs.Layout.{Entry, ofType, enabled, idOf, input, baseEntries}
-use Rattle.mps.specs.Rules.{Side, enabledOf}
+use Rattle.mps.specs.Words.{byte, among, any, every, keep, each, only, joined, twice, common}
+use Rattle.mps.specs.Layout.{Entry, processorType, ioApicType, everyone, localApicStep, localApic, ofType, enabled, idOf, input, baseEntries}
+use Rattle.mps.specs.Rules.{Side, ioSide, localSide, enabledOf, enabledIds, bootstraps, misplaced, wrongProcessors, wrongIoApics}
 use Rattle.mps.specs.Judge.{tableRules, tableRefusal}
 use Rattle.mps.specs.Routes.{matches, names, pairSize, pair, pairsTo, routes, routesOf, wrongLine, roomTooSmall, routeRules, routeRefusal, routed, routesLeft}
 use Rattle.mps.specs.Answers.{routedOf}
 use Rattle.mps.specs.declared.Routed.{Routed}
 use Rattle.mps.specs.declared.Routed.the-variants.{Pairs, Refused}
-use Rattle.laws.proofs.Tests.{whether}
-use Rattle.laws.proofs.Lists.{keep-keep, byte-right}
+use Rattle.laws.proofs.Tests.{whether, and-parts, or-parts}
+use Rattle.laws.proofs.Lists.{among-first, among-rest, keep-keep, byte-right}
 use Rattle.laws.proofs.Joined.{joined-same, joined-keep, joined-each, joined-only}
-use Rattle.laws.proofs.Refusals.{so, refusal-none, given-before, given-exactly}
+use Rattle.laws.proofs.Refusals.{so, refusal-pass, refusal-none, given-before, given-exactly}
+use Rattle.accepted.proofs.Sound.{sound, sound-rest}
 use Rattle.promises.specs.Declared.{target, declares, declared, Route, Stands}
 use Rattle.promises.proofs.Answered.{routed-refused}
 use Rattle.promises.proofs.Given.{Exactly}
@@ -242,6 +243,59 @@ module _ (side : Side) (t : List ℕ) (itype bus irq : ℕ) (room : List ℕ) {n
               second = rw routes-in-order (List·getD-append all rest 0 (k .place * 2 + 1) (omega arith) ∙ k .second);
             },
       )
+
+-- ---- "255 names all": it is no APIC's own ID, and stands in no pair
+
+-- What is enabled and of a type has its ID among those.
+enabled-among :
+    (n : ℕ) (es : List Entry) (k : ℕ) → k < length es → (ofType n (getD es k []) && enabled (getD es k [])) ≡ true
+    → among (idOf (getD es k [])) (enabledIds n es) ≡ true
+unfolding enabledIds enabledOf keep each
+enabled-among n [] k h t = absurd (omega arith)
+enabled-among n (e ∷ es) zero h t =
+    let p = and-parts (ofType n e) (enabled e) t in
+    rw (p .0, p .1) (among-first (idOf e) (idOf e) _ refl)
+enabled-among n (e ∷ es) (suc k) h t =
+    let r = enabled-among n es k (omega arith) t in
+    whether (ofType n e)
+    (λ a. whether (enabled e) (λ b. rw (a, b) (among-rest _ (idOf e) _ r)) (λ b. rw (a, b) r))
+    (λ a. rw a r)
+
+module _ (side : Side) (t : List ℕ) (own : among everyone (enabledIds (side .targets) (baseEntries t)) ≡ false) where
+  no-everyone : (itype bus irq id into : ℕ) → Route side itype bus irq (baseEntries t) id into → id ≡ everyone → ⊥
+  unfolding declares target
+  no-everyone itype bus irq id into r q =
+      let e = getD (baseEntries t) (r .line) [] in
+      let a = getD (baseEntries t) (r .apic) [] in
+      let both = and-parts (matches side itype bus irq e) ((ofType (side .targets) a && enabled a) && names e a) (r .route) in
+      let is = and-parts (ofType (side .targets) a && enabled a) (names e a) (both .1) in
+      let m = enabled-among (side .targets) (baseEntries t) (r .apic) (r .apic-there) (is .0) in
+      false≢true (sym own ∙ rw (r .named, q) at m)
+
+-- 14 and 16: "ID 255" is refused.
+own-ids :
+    (t : List ℕ) → tableRefusal t ≡ 0
+    → (among everyone (enabledIds processorType (baseEntries t)) ≡ false) × (among everyone (enabledIds ioApicType (baseEntries t)) ≡ false)
+unfolding tableRules wrongProcessors wrongIoApics
+own-ids t a =
+    let es = baseEntries t in
+    let fourteen = refusal-pass 14 _ _ (omega arith) (sym (sound-rest t (sound t a)) ∙ a) in
+    let fifteen = refusal-pass 15 _ _ (omega arith) (fourteen .1) in
+    let sixteen = refusal-pass 16 _ _ (omega arith) (fifteen .1) in
+    let ids = enabledIds ioApicType es in
+    let boots =
+    not (eqb (localApic t % localApicStep) 0) || not (eqb (length (bootstraps es)) 1) || not (every enabled (bootstraps es)) in
+    let once = or-parts (boots || among everyone (enabledIds processorType es)) (twice (enabledIds processorType es)) (fourteen .0) in
+    let placed = or-parts (among everyone ids || twice ids || common ids (enabledIds processorType es)) (any misplaced (enabledOf ioApicType es)) (sixteen .0) in
+    let shared = or-parts (among everyone ids || twice ids) (common ids (enabledIds processorType es)) (placed .0) in
+    (or-parts boots (among everyone (enabledIds processorType es)) (once .0) .1, or-parts (among everyone ids) (twice ids) (shared .0) .0)
+
+module _ (t : List ℕ) (a : tableRefusal t ≡ 0) (itype bus irq id into : ℕ) where
+  pub io-never-255 : Route ioSide itype bus irq (baseEntries t) id into → id ≡ everyone → ⊥
+  io-never-255 = no-everyone ioSide t (own-ids t a .1) itype bus irq id into
+
+  pub local-never-255 : Route localSide itype bus irq (baseEntries t) id into → id ≡ everyone → ⊥
+  local-never-255 = no-everyone localSide t (own-ids t a .0) itype bus irq id into
 
 -- ---- The numbers
 
