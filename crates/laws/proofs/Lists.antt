@@ -9,7 +9,7 @@ use native.Mathlib.Numerals.{add-one}
 use lib.ListN.{length, getD, take, drop, replicate, drop-of-length-le}
 use lib.Seq.{drop-cons}
 use lib.Dec.{eqb}
-use borrow.Author.Tests.{eqb-true, eq-eqb}
+use borrow.Author.Tests.{eqb-true, eqb-false, eq-eqb}
 use Rattle.mps.specs.Words.{byte, among, keep, any, each, exactly}
 use Rattle.laws.proofs.Tests.{whether, either}
 
@@ -30,6 +30,22 @@ among-rest x y ys a = rw a (or-true (eqb x y))
 pub among-cases : {C : Type 0} (x y : ℕ) (ys : List ℕ) → among x (y ∷ ys) ≡ true → (x ≡ y → C) → (among x ys ≡ true → C) → C
 unfolding among
 among-cases x y ys a f g = either (eqb x y) (among x ys) a (λ h. f (eqb-true x y h)) g
+
+-- A list that is longer in its middle has all that it had.
+pub among-more : (x : ℕ) (a b c : List ℕ) → among x (a ++ c) ≡ true → among x (a ++ (b ++ c)) ≡ true
+unfolding among
+among-more x [] [] c e = e
+among-more x [] (y ∷ b) c e = among-rest x y (b ++ c) (among-more x [] b c e)
+among-more x (y ∷ a) b c e =
+    among-cases x y (a ++ c) e
+    (λ q. among-first x y (a ++ (b ++ c)) q)
+    (λ q. among-rest x y (a ++ (b ++ c)) (among-more x a b c q))
+
+-- What is not the last is before it.
+pub among-front : (x y : ℕ) (a : List ℕ) → among x (a ++ (y ∷ [])) ≡ true → eqb x y ≡ false → among x a ≡ true
+among-front x y [] e f = absurd (among-cases x y [] e (eqb-false x y f) (among-none x))
+among-front x y (z ∷ a) e f =
+    among-cases x z (a ++ (y ∷ [])) e (λ q. among-first x z a q) (λ q. among-rest x z a (among-front x y a q f))
 
 -- Every number of one list is among those of another.
 abbrev pub Within : List ℕ → List ℕ → Type 0

@@ -5,12 +5,9 @@ use mathlib.Core.List.{List, [], _∷_, _++_}
 use native.Mathlib.Nat.{zero-min, min-zero, suc-min-suc, zero-sub, sub-zero, suc-sub-suc}
 use native.Mathlib.Numerals.{add-one}
 use native.Mathlib.Omega.{arith}
-use lib.Dec.{leb}
-use lib.ListN.{length, take, drop, length-drop, drop-of-length-le}
+use lib.ListN.{length, take, drop, length-drop}
 use lib.Seq.{take-take, take-add, take-at, getD-take, take-nil, drop-at, drop-nil, drop-drop, drop-cons, length-take-le}
-use borrow.Author.Tests.{leb-true, leb-false}
 use Rattle.mps.specs.Words.{byte, part}
-use Rattle.laws.proofs.Tests.{whether}
 
 pub drop-take : (a k : ℕ) (s : List ℕ) → drop a (take k s) ≡ take (k - a) (drop a s)
 drop-take zero k s = let e : k - 0 ≡ k = omega arith in rw e
@@ -54,14 +51,6 @@ part-inside (suc m) zero (x ∷ xs) =
 part-inside (suc m) (suc n) (x ∷ xs) =
     let k = length xs in
     rw (suc-min-suc m k, suc-min-suc n k, suc-sub-suc (min n k) (min m k), suc-sub-suc n m) (part-inside m n xs)
-
-pub drop-inside : (n : ℕ) (s : List ℕ) → drop (min n (length s)) s ≡ drop n s
-drop-inside n s =
-    whether (leb n (length s))
-    (λ h. let k = leb-true n (length s) h in let e : min n (length s) ≡ n = omega arith in rw e)
-    (λ h.
-    let k = leb-false n (length s) h in
-    drop-of-length-le s {i = min n (length s)} (omega arith) ∙ sym (drop-of-length-le s {i = n} (omega arith)))
 
 -- A part of the first n bytes.
 pub part-take : (a b n : ℕ) (s : List ℕ) → b ≤ n → part a b (take n s) ≡ part a b s

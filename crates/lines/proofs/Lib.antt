@@ -3,3 +3,4 @@ pub mod FrameLines
 pub mod ExtendedLines
 pub mod BaseLines
 pub mod Numbers
+pub mod EntryLines

@@ -1,18 +1,18 @@
 -- An entry as a number: its first 8 bytes, and the lines that they tell. Assumes nothing.
 use Prim.Native.Nat.{ℕ, zero, suc, _+_, _*_, _/_, _%_, _^_, _≤_, _<_}
-use mathlib.Core.Path.{_≡_, refl, ap, sym, _∙_}
+use mathlib.Core.Path.{_≡_, refl, sym, _∙_}
 use mathlib.Core.List.{List}
 use native.Mathlib.Omega.{arith}
 use native.Mathlib.Nat.{zero-add, add-zero, pow-zero, div-one, div-div-eq-div-mul}
 use lib.Pow.{pow-add}
 use lib.ListN.{getD}
-use borrow.Author.Tests.{eq-eqb, ne-eqb}
-use Rattle.mps.specs.Words.{byte}
+use borrow.Author.Tests.{ne-eqb}
 use Rattle.mps.specs.Numbers.{le, bytes}
 use Rattle.mps.specs.Layout.{Entry}
 use Rattle.mps.specs.Listing.{cpuLine, busLine, ioApicLine, interruptLine, baseLine, mapLine, treeLine, modLine, skipLine, extendedLine}
 use Rattle.numbers.proofs.Laws.{le-eight, le-below, le-bytes, bytes-below}
 use Rattle.lines.specs.Wrote.{spaceLine}
+use Rattle.lines.specs.Entry.{entryLine}
 
 -- ---- The bytes of a number
 
@@ -53,10 +53,10 @@ module _ (e : Entry) (x : ℕ) (is : x ≡ le 8 e 0) (b : (i : ℕ) → getD e i
   number : (k : ℕ) → k < 8 → getD (bytes 8 x) k 0 ≡ getD e k 0
   number k h = rw is (rw zero-add at (number-byte 8 e 0 k b h))
 
-  pub number-type : getD (bytes 8 x) 0 0 ≡ getD e 0 0
+  number-type : getD (bytes 8 x) 0 0 ≡ getD e 0 0
   number-type = number 0 (omega arith)
 
-  pub base-line-is : (getD (bytes 8 x) 0 0 ≡ 1 → ⊥) → baseLine (bytes 8 x) ≡ baseLine e
+  base-line-is : (getD (bytes 8 x) 0 0 ≡ 1 → ⊥) → baseLine (bytes 8 x) ≡ baseLine e
   unfolding baseLine cpuLine ioApicLine interruptLine
   base-line-is h =
       rw (
@@ -72,11 +72,7 @@ module _ (e : Entry) (x : ℕ) (is : x ≡ le 8 e 0) (b : (i : ℕ) → getD e i
         ne-eqb (getD e 0 0) 1 (λ q. h (number-type ∙ q)),
       )
 
-  pub bus-line-is : getD (bytes 8 x) 0 0 ≡ 1 → busLine e ≡ baseLine e
-  unfolding baseLine
-  bus-line-is h = rw (eq-eqb (getD e 0 0) 1 (sym number-type ∙ h), ne-eqb (getD e 0 0) 0 (λ q. omega (arith, number-type, h, q)))
-
-  pub extended-line-is : (getD (bytes 8 x) 0 0 ≡ 128 → ⊥) → extendedLine (bytes 8 x) ≡ extendedLine e
+  extended-line-is : (getD (bytes 8 x) 0 0 ≡ 128 → ⊥) → extendedLine (bytes 8 x) ≡ extendedLine e
   unfolding extendedLine treeLine modLine skipLine
   extended-line-is h =
       rw (
@@ -89,7 +85,14 @@ module _ (e : Entry) (x : ℕ) (is : x ≡ le 8 e 0) (b : (i : ℕ) → getD e i
         ne-eqb (getD e 0 0) 128 (λ q. h (number-type ∙ q)),
       )
 
-  pub map-line-is : {base size : ℕ} → getD (bytes 8 x) 0 0 ≡ 128 → base ≡ le 8 e 4 → size ≡ le 8 e 12 → spaceLine (bytes 8 x) base size ≡ extendedLine e
-  unfolding extendedLine mapLine spaceLine
-  map-line-is h p q =
-      rw (eq-eqb (getD e 0 0) 128 (sym number-type ∙ h), number 2 (omega arith), number 3 (omega arith), p, q)
+  pub entry-line-is : (getD (bytes 8 x) 0 0 ≡ 1 → ⊥) → (getD (bytes 8 x) 0 0 ≡ 128 → ⊥) → entryLine (bytes 8 x) ≡ entryLine e
+  unfolding entryLine
+  entry-line-is h k = rw (number-type, base-line-is h, extended-line-is k)
+
+  pub bus-line-is : getD (bytes 8 x) 0 0 ≡ 1 → busLine e ≡ entryLine e
+  unfolding entryLine baseLine
+  bus-line-is h = rw (sym number-type ∙ h)
+
+  pub map-line-is : {base size : ℕ} → getD (bytes 8 x) 0 0 ≡ 128 → base ≡ le 8 e 4 → size ≡ le 8 e 12 → spaceLine (bytes 8 x) base size ≡ entryLine e
+  unfolding entryLine extendedLine mapLine spaceLine
+  map-line-is h p q = rw (sym number-type ∙ h, number 2 (omega arith), number 3 (omega arith), p, q)

@@ -24,25 +24,8 @@ ghost use Rattle.mps.specs.Listing.{cpuLine, busLine, ioApicLine, baseLine};
 ghost use Rattle.text.specs.Text.{ended};
 ghost use Rattle.lines.specs.Wrote.{Wrote};
 
-// The line of a base entry, by its type.
-pub fn line(out: &mut [u8], at: usize, e: &[u8]) -> usize
-    ensures { λ r. ⌜ r ≡ length (baseLine (now (e .entry))) ⌝ }
-    ensures { λ _. ⌜ now (out .exit) ≡ sets (now (out .entry)) at (baseLine (now (e .entry))) ⌝ }
-{
-    let x = numbers::le64(e, 0);
-    if byte(x, 0) == layout::BUS_TYPE {
-        return bus_line(out, at, e);
-    }
-    if roomy(out, at) {
-        return entry(out, at, x) - at;
-    }
-    let mut buffer: [u8; 128] = [0; 128];
-    let n = entry(&mut buffer, 0, x);
-    moved(out, at, &buffer, n)
-}
-
 // A name may be cut short, and then its bytes do not tell how many they are.
-fn bus_line(out: &mut [u8], at: usize, e: &[u8]) -> usize
+pub(super) fn bus_line(out: &mut [u8], at: usize, e: &[u8]) -> usize
     ensures { λ r. ⌜ r ≡ length (busLine (now (e .entry))) ⌝ }
     ensures { λ _. ⌜ now (out .exit) ≡ sets (now (out .entry)) at (busLine (now (e .entry))) ⌝ }
 {
@@ -77,7 +60,7 @@ fn bus(out: &mut [u8], at: usize, e: &[u8]) -> usize
 }
 
 // An entry of another type.
-fn entry(out: &mut [u8], at: usize, e: u64) -> usize
+pub(super) fn entry(out: &mut [u8], at: usize, e: u64) -> usize
     requires { ⌜ (at + 128 ≤ length (now out)) × (byteOf (bytes 8 e) 0 ≡ 1 → ⊥) ⌝ }
     ensures { λ r. ⌜ Wrote (now (out .entry)) at (baseLine (bytes 8 e)) (now (out .exit)) r ⌝ }
     ensures { λ r. ⌜ r ≤ at + 128 ⌝ }

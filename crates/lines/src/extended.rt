@@ -19,27 +19,8 @@ ghost use Rattle.mps.specs.Words.{byte as byteOf};
 ghost use Rattle.mps.specs.Numbers.{bytes};
 ghost use Rattle.lines.specs.Wrote.{Wrote, spaceLine};
 
-// The line of an extended entry, by its type.
-pub fn line(out: &mut [u8], at: usize, e: &[u8]) -> usize
-    ensures { λ r. ⌜ r ≡ length (extendedLine (now (e .entry))) ⌝ }
-    ensures { λ _. ⌜ now (out .exit) ≡ sets (now (out .entry)) at (extendedLine (now (e .entry))) ⌝ }
-{
-    let x = numbers::le64(e, 0);
-    if byte(x, 0) == layout::MAPPING_TYPE {
-        let base = numbers::le64(e, layout::SPACE_BASE);
-        let size = numbers::le64(e, layout::SPACE_LENGTH);
-        return map_line(out, at, x, base, size);
-    }
-    if roomy(out, at) {
-        return entry(out, at, x) - at;
-    }
-    let mut buffer: [u8; 128] = [0; 128];
-    let n = entry(&mut buffer, 0, x);
-    moved(out, at, &buffer, n)
-}
-
 // The line of a mapping, whose base and length are numbers of their own.
-fn map_line(out: &mut [u8], at: usize, e: u64, base: u64, size: u64) -> usize
+pub(super) fn map_line(out: &mut [u8], at: usize, e: u64, base: u64, size: u64) -> usize
     ensures { λ r. ⌜ r ≡ length (spaceLine (bytes 8 e) base size) ⌝ }
     ensures { λ _. ⌜ now (out .exit) ≡ sets (now (out .entry)) at (spaceLine (bytes 8 e) base size) ⌝ }
 {
@@ -66,7 +47,7 @@ fn map(out: &mut [u8], at: usize, e: u64, base: u64, size: u64) -> usize
 }
 
 // An entry of another type.
-fn entry(out: &mut [u8], at: usize, e: u64) -> usize
+pub(super) fn entry(out: &mut [u8], at: usize, e: u64) -> usize
     requires { ⌜ (at + 128 ≤ length (now out)) × (byteOf (bytes 8 e) 0 ≡ 128 → ⊥) ⌝ }
     ensures { λ r. ⌜ Wrote (now (out .entry)) at (extendedLine (bytes 8 e)) (now (out .exit)) r ⌝ }
     ensures { λ r. ⌜ r ≤ at + 128 ⌝ }

@@ -3,8 +3,9 @@
 // Each public function stores one line from a place on and answers how many bytes it has. Bytes that would come to stand
 // past the room's end are not stored, but they count: in a room of no bytes a line is only measured. The lines are those
 // of mps's specs/Listing.antt, of any bytes: one that an entry lacks reads as 0. No public function has a `requires`.
-pub mod base; // the lines of base entries
-pub mod extended; // the lines of extended entries
+mod base; // the lines of base entries
+pub mod entry; // the line of an entry, by its type
+mod extended; // the lines of extended entries
 pub mod frame; // the lines that stand around them, or alone
 
 ghost use mathlib.Core.Path.{_≡_};

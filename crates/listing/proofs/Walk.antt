@@ -5,9 +5,8 @@ use mathlib.Core.Bool.{false}
 use mathlib.Core.List.{List, [], _∷_, _++_, append-assoc, append-nil}
 use native.Mathlib.Omega.{arith}
 use lib.ListN.{length, length-append}
-use borrow.Author.Tests.{lt-ltb, le-ltb}
 use Rattle.mps.specs.Words.{joined, part}
-use Rattle.mps.specs.Layout.{Entry, type, headerSize, firstExtendedType, extendedEnd, baseEntries, extendedEntries}
+use Rattle.mps.specs.Layout.{Entry, type, headerSize, extendedEnd, baseEntries, extendedEntries}
 use Rattle.mps.specs.Table.{entryFault, walkFrom, extendedFault, extendedFrom}
 use Rattle.mps.specs.Judge.{tableRefusal}
 use Rattle.mps.specs.Reader.{nextPlace}
@@ -18,20 +17,12 @@ use Rattle.laws.proofs.Joined.{joined-append}
 use Rattle.accepted.proofs.Sound.{sound}
 use Rattle.reader.specs.Walked.{Reads}
 use Rattle.reader.proofs.Walk.{Ahead, no-fault, no-extended-fault, stays-past, reads-table, reads-stop, reads-go}
-use Rattle.listing.specs.Fits.{entryLine, entriesText}
+use Rattle.lines.specs.Entry.{entryLine}
+use Rattle.lines.proofs.EntryLines.{base-line, extended-line}
+use Rattle.listing.specs.Fits.{entriesText}
 
--- ---- The line of an entry, by its type
+-- ---- The lines of entries without a fault
 
-module _ (e : Entry) {kind : ℕ} (k : kind ≡ type e) where
-  pub base-line : kind < firstExtendedType → entryLine e ≡ baseLine e
-  unfolding entryLine
-  base-line h = rw (lt-ltb (type e) firstExtendedType (omega arith))
-
-  pub extended-line : firstExtendedType ≤ kind → entryLine e ≡ extendedLine e
-  unfolding entryLine
-  extended-line h = rw (le-ltb (type e) firstExtendedType (omega arith))
-
--- Of entries without a fault.
 joined-base : (before : ℕ) (es : List Entry) → walkFrom before es ≡ 0 → joined entryLine es ≡ joined baseLine es
 unfolding walkFrom joined
 joined-base before [] w = refl

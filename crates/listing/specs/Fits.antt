@@ -7,7 +7,7 @@ use lib.ListN.{length}
 use lib.Dec.{ltb}
 use Rattle.mps.specs.Words.{put, joined}
 use Rattle.mps.specs.Refusals.{roomNumber}
-use Rattle.mps.specs.Layout.{Entry, type, firstExtendedType, baseEntries, extendedEntries}
+use Rattle.mps.specs.Layout.{baseEntries, extendedEntries}
 use Rattle.mps.specs.Listing.{baseLine, extendedLine, pointerLine, tableLine, endLine, tableLines}
 use Rattle.mps.specs.declared.Written.{Written}
 use Rattle.mps.specs.declared.Written.the-variants.{Bytes, Refused}
@@ -26,10 +26,6 @@ tableText pointer imcr address t = pointerLine pointer imcr ++ tableLines addres
 unfoldable pub frameLength : ℕ → ℕ → ℕ → ℕ → ℕ → ℕ → ℕ
 frameLength pointer imcr address base extended count =
     length (pointerLine pointer imcr) + length (tableLine address base extended count) + length endLine
-
--- The line of an entry, by its type.
-unfoldable pub entryLine : Entry → List ℕ
-entryLine e = cond (ltb (type e) firstExtendedType) (baseLine e) (extendedLine e)
 
 -- The lines of all entries of a table.
 unfoldable pub entriesText : List ℕ → List ℕ

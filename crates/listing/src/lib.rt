@@ -16,26 +16,15 @@ ghost use lib.Seq.{sets};
 ghost use Rattle.mps.specs.Judge.{tableRefusal};
 ghost use Rattle.mps.specs.Listing.{listed, listLeft, printed, printLeft, defaultLine, refusedLine};
 ghost use Rattle.lines.specs.Wrote.{Wrote};
-ghost use Rattle.listing.specs.Fits.{fitted, fitLeft, tableText, frameLength, entryLine, entriesText};
+ghost use Rattle.lines.specs.Entry.{entryLine};
+ghost use Rattle.listing.specs.Fits.{fitted, fitLeft, tableText, frameLength, entriesText};
 
 // "answer longer than the lent room"
 const TOO_LONG: u8 = 19;
 
-// The line of an entry, by its type; answers its length.
-fn put_line(out: &mut [u8], at: usize, e: &[u8]) -> usize
-    ensures { λ r. ⌜ r ≡ length (entryLine (now (e .entry))) ⌝ }
-    ensures { λ _. ⌜ now (out .exit) ≡ sets (now (out .entry)) at (entryLine (now (e .entry))) ⌝ }
-{
-    if numbers::byte(e, 0) < layout::MAPPING_TYPE {
-        return lines::base::line(out, at, e);
-    }
-    lines::extended::line(out, at, e)
-}
-
-// The lines of all entries, from a place of the room on; answers the place behind them. Behind the last entry the
-// reader's place stays. The next place is asked for in the turn that needs it, so that the compiler knows by an entry's
-// type how long it is where its line is made. The bound on the room's place only keeps sums from overflowing; any larger
-// one would do.
+// The lines of all entries, from a place of the room on; answers the place behind them. Behind the last entry the reader's
+// place stays. `after` stands at the top of the turn: inlined there, its branch on the type also fixes the length for the
+// line's code. The bound on the room's place keeps sums below 2^64; a larger one would do as well.
 fn put_entries(out: &mut [u8], at: usize, t: &[u8]) -> usize
     requires { ⌜ (tableRefusal (now t) ≡ 0) × (at ≤ 1000) ⌝ }
     ensures { λ r. ⌜ Wrote (now (out .entry)) at (entriesText (now (t .entry))) (now (out .exit)) r ⌝ }
@@ -47,7 +36,7 @@ fn put_entries(out: &mut [u8], at: usize, t: &[u8]) -> usize
         if next <= place {
             return put;
         }
-        put += put_line(out, put, &t[place..next]);
+        put += lines::entry::line(out, put, &t[place..next]);
         place = next;
     }
 }
@@ -77,7 +66,7 @@ fn line_width(e: &[u8]) -> usize
     widths::extended(e)
 }
 
-// .. and the lines of all entries: the same walk.
+// How many bytes the lines of all entries have: the same walk.
 fn entries_width(t: &[u8]) -> usize
     requires { ⌜ tableRefusal (now t) ≡ 0 ⌝ }
     ensures { λ r. ⌜ r ≡ length (entriesText (now (t .entry))) ⌝ }
@@ -94,8 +83,8 @@ fn entries_width(t: &[u8]) -> usize
     }
 }
 
-// .. and the lines around them: "pointer", "imcr", "table", "end", twice eight digits, and ten bytes behind words. No
-// address makes them longer.
+// How many bytes the lines around the entries have: "pointer", "imcr", "table", "end", twice eight digits, and ten bytes
+// behind words. No address makes them longer.
 fn frame_width(imcr: u8, base: u16, extended: u16, count: u16) -> usize
     ensures { λ r. ⌜ ((pointer address : ℕ) → r ≡ frameLength pointer imcr address base extended count) × (r ≤ 65) ⌝ }
 {

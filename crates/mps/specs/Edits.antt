@@ -60,7 +60,7 @@ changed t e = not (same (e .stated) (standing t (e .place)))
 unfoldable pub innerRefusal : List ℕ → Edit → ℕ
 innerRefusal t e = tableRefusal (editedTable t e)
 
--- What is tested at the entry itself, before anything is written.
+-- What is tested before anything is written.
 abbrev pub entryRules : List ℕ → Edit → List Rule
 entryRules t e = 20 when noPlace t e ∷ 21 when otherShape t e ∷ 22 when changed t e ∷ []
 

@@ -1,8 +1,8 @@
 -- Layouts and limits: the offsets, widths, lengths and limits of the dump, the pointer, the table and its entries. The
 -- ranges of MPS Table 4-17 stand in Ranges; the writer's header lays the fields of Table 4-2 one behind the other once more.
 -- Document 01, "The dump", "The floating pointer" and "The table"; MPS 4.1 to 4.4. "Reserved bits and bytes decide nothing
--- and are kept": only byte 43 has a name, since the writer takes it. Nor has what no rule reads by itself: the pointer's
--- "checksum at 10", which counts in its sum, and a processor's "signature 4, features 8".
+-- and are kept": only byte 43 has a name, since the writer takes it. Without a name too is what no rule reads by
+-- itself: the pointer's "checksum at 10", which counts in its sum, and a processor's "signature 4, features 8".
 use Prim.Native.Nat.{ℕ, _+_, _/_, _%_, _^_}
 use mathlib.Core.Bool.{Bool, cond}
 use mathlib.Core.List.{List}

@@ -66,8 +66,7 @@ use Rattle.text.proofs.hex16.Reads as hex16
 use Rattle.text.proofs.name.Reads as name
 use Rattle.text.proofs.width.Reads as width
 use Rattle.text.proofs.kept.Reads as kept
-use Rattle.lines.proofs.base.line.Reads as base-line
-use Rattle.lines.proofs.extended.line.Reads as extended-line
+use Rattle.lines.proofs.entry.line.Reads as entry-line
 use Rattle.lines.proofs.frame.pointer.Reads as pointer-line
 use Rattle.lines.proofs.frame.table.Reads as table-line
 use Rattle.lines.proofs.frame.end.Reads as end-line
@@ -116,7 +115,7 @@ Determines {K} {A} {R} {S} P left =
 
 -- A contract over a slice of records, or over a struct that holds a reference: the borrow checker does not read it, so it is
 -- taken as the logic has it. What it ensures of one result, together with what it ensures of another, says that the two
--- are equal.
+-- are equal. (What these contracts ensure are facts and own nothing, so that both can hold at once.)
 abbrev pub Contracts : Ended → Type 2
 Contracts T = (M : Type 1) (𝓤 : URA M) → Heap 𝓤 → Atoms 𝓤 → (Memory → SProp 𝓤) → (Routine → Fun 𝓤) → Clauses 𝓤 T
 
@@ -328,11 +327,8 @@ kept-determined κ a x y s t p q = p ∙ sym q
 
 -- ---- lines
 
-pub base-line-determined : Determines base-line.Post (λ κ s. now (s .0))
-base-line-determined κ a x y s t p q = (p .0 ∙ sym (q .0), p .1 ∙ sym (q .1))
-
-pub extended-line-determined : Determines extended-line.Post (λ κ s. now (s .0))
-extended-line-determined κ a x y s t p q = (p .0 ∙ sym (q .0), p .1 ∙ sym (q .1))
+pub entry-line-determined : Determines entry-line.Post (λ κ s. now (s .0))
+entry-line-determined κ a x y s t p q = (p .0 ∙ sym (q .0), p .1 ∙ sym (q .1))
 
 pub pointer-line-determined : Determines pointer-line.Post (λ κ s. now (s .0))
 pointer-line-determined κ a x y s t p q = (p .0 ∙ sym (q .0), p .1 ∙ sym (q .1))

@@ -1,6 +1,6 @@
 -- The numbers of an edit, "given exactly when"; demand 3: "In a sound table, with a place that exists and the right lengths
 -- and type, it is refused as changed exactly when other bytes stand there"; and what an accepted edit tells. Assumes nothing.
-use Prim.Native.Nat.{ℕ, _<_, _≤_}
+use Prim.Native.Nat.{ℕ, suc, _<_, _≤_}
 use mathlib.Core.Path.{_≡_, refl, sym, ap, _∙_}
 use mathlib.Core.Bool.{true, false, not, true≢false}
 use mathlib.Core.Logic.{_↔_}
@@ -49,9 +49,10 @@ module _ (t : List ℕ) (e : Edit) where
   unfolding numberOf
   done-exactly = (number-edited, answered)
 
-  pub changed-number : (edited t e ≡ Refused 22) ↔ (editRefusal t e ≡ 22)
+  -- A refusal is answered with its number, but for 23.
+  pub edit-refused : (n : ℕ) → eqb (suc n) innerNumber ≡ false → (edited t e ≡ Refused (suc n)) ↔ (editRefusal t e ≡ suc n)
   unfolding numberOf
-  changed-number = (number-edited, answered)
+  edit-refused n f = (number-edited, λ q. answered q ∙ rw f)
 
   -- "the inner number is given too": it is the edited table's.
   pub inner-exactly : (n : ℕ) → (edited t e ≡ Inner n) ↔ ((editRefusal t e ≡ innerNumber) × (innerRefusal t e ≡ n))
@@ -107,7 +108,7 @@ before-22 t e a h =
 pub changed-exactly : (t : List ℕ) (e : Edit) → tableRefusal t ≡ 0 → Shaped t e
     → (edited t e ≡ Refused 22) ↔ (e .stated ≡ standing t (e .place) → ⊥)
 changed-exactly t e a h =
-    let number = changed-number t e in
+    let number = edit-refused t e 21 refl in
     let given = given-22 t e in
     let bytes = other-bytes t e in
     (λ d. bytes .0 (given .0 (number .0 d) .1), λ o. number .1 (given .1 (before-22 t e a h, bytes .1 o)))

@@ -8,7 +8,8 @@ use mathlib.Core.List.{List, _++_}
 use native.Mathlib.Omega.{arith}
 use lib.ListN.{length, drop, replicate, length-replicate}
 use lib.Dec.{eqb}
-use borrow.Author.Tests.{ne-eqb}
+use borrow.Author.Tests.{ne-eqb, eqb-true, eqb-false}
+use Rattle.mps.specs.Words.{first}
 use Rattle.mps.specs.Rules.{Side}
 use Rattle.mps.specs.Judge.{tableRefusal}
 use Rattle.mps.specs.Listing.{listing, listRefusal, listed, listLeft, programOutput, printRefusal, printed, printLeft}
@@ -20,6 +21,7 @@ use Rattle.mps.specs.declared.Written.the-variants.{Bytes, Refused as Written·
 use Rattle.mps.specs.declared.Routed.{Routed}
 use Rattle.mps.specs.declared.Routed.the-variants.{Pairs, Refused as Routed·Refused}
 use Rattle.mps.specs.declared.Edited.{Edited}
+use Rattle.laws.proofs.Tests.{whether}
 use Rattle.laws.proofs.Refusals.{first-none}
 use Rattle.writer.proofs.Laws.{length-image}
 use Rattle.exports.specs.Codes.{refusalIn, writtenCode, routedCode, editedCode}
@@ -27,6 +29,9 @@ use Rattle.promises.proofs.Answered.{written-refused, written-bytes, ro
 use Rattle.promises.proofs.Edits.{refused-unchanged}
 
 -- ---- "A refusal writes nothing into lent memory"
+
+first-both : (a b : ℕ) → a ≡ 0 → b ≡ 0 → first a b ≡ 0
+first-both a b e f = rw (e, f)
 
 -- What a call leaves is the answer's where its number is 0, and else what it was lent.
 unwritten : {m n : ℕ} (left lent : List ℕ) → (0 < m) × (m ≡ n) → cond (eqb m 0) left lent ≡ lent
@@ -62,6 +67,18 @@ module _ (p : Parts) (room : List ℕ) where
   unfolding writeLeft
   write-cleared e h = rw (e, ne-eqb (tableRefusal (image p)) 0 h, length-replicate {A = ℕ} (imageSize p) 0)
 
+  -- By the answer: refused, the room is as it was, or the stretch of a judged image is zero and the rest as it was.
+  pub write-leaves : {C : Type 0} (n : ℕ) → written p room ≡ Written·Refused n
+      → (writeLeft p room ≡ room → C) → (writeLeft p room ≡ replicate (imageSize p) 0 ++ drop (imageSize p) room → C) → C
+  unfolding written writeRefusal
+  write-leaves n e kept cleared =
+      let k = written-refused (writeRefusal p room) (imageSize p) n e in
+      whether (eqb (earlyRefusal p room) 0)
+      (λ z.
+      let none = eqb-true (earlyRefusal p room) 0 z in
+      cleared (write-cleared none (λ j. omega (arith, k .0, first-both (earlyRefusal p room) (tableRefusal (image p)) none j))))
+      (λ z. kept (write-kept (eqb-false (earlyRefusal p room) 0 z)))
+
 -- ---- "Answers and images start at their room's first byte; what lies past them stays."
 
 module _ (d room : List ℕ) where
@@ -69,6 +86,12 @@ module _ (d room : List ℕ) where
   unfolding listed listLeft
   list-shown n e =
       let b = written-bytes (listRefusal d room) (length (listing d)) n e in
+      (sym (b .1), rw (b .0, ← b .1))
+
+  pub print-shown : (n : ℕ) → printed d room ≡ Bytes n → (n ≡ length (programOutput d)) × (printLeft d room ≡ programOutput d ++ drop n room)
+  unfolding printed printLeft
+  print-shown n e =
+      let b = written-bytes (printRefusal d room) (length (programOutput d)) n e in
       (sym (b .1), rw (b .0, ← b .1))
 
 module _ (p : Parts) (room : List ℕ) where

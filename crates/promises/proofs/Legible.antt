@@ -18,7 +18,7 @@ use Rattle.slices.proofs.Laws.{same-true}
 use Rattle.text.proofs.Laws.{length-digits, width-is}
 use Rattle.promises.specs.Shown.{value, decimalValue, hexValue, padded, placeOf, onFirst, pieces, readLines}
 use Rattle.promises.specs.Shown.{Field, word, choice, number, address, name, shown, Again, fits, visible}
-use Rattle.promises.specs.Shown.{readable, Readable, shownLines, lineOf, states, ranks, kinds}
+use Rattle.promises.specs.Shown.{readable, AllReadable, shownLines, lineOf, states, ranks, kinds}
 
 -- ---- Digits
 
@@ -98,7 +98,7 @@ again-at (f ∷ fs) zero e = field-again f (and-parts (readable f) (every readab
 again-at (f ∷ fs) (suc j) e = again-at fs j (and-parts (readable f) (every readable fs) e .1)
 
 -- Field j of line i.
-pub lines-again : (ls : List (List Field)) (i j : ℕ) → Readable ls → Again (getD (getD ls i []) j (word []))
+pub lines-again : (ls : List (List Field)) (i j : ℕ) → AllReadable ls → Again (getD (getD ls i []) j (word []))
 unfolding every shown
 lines-again [] i j e = refl
 lines-again (fs ∷ ls) zero j e = again-at fs j (and-parts (every readable fs) _ e .0)
@@ -263,7 +263,7 @@ line-apart (f ∷ fs) s e =
     ∙ piece-ended 10 (spaced (each shown (f ∷ fs))) s (spaced-above (each shown (f ∷ fs)) (shown-visible (f ∷ fs) e))
 
 -- Lines of fields that can be read again are cut into the words that show them.
-pub lines-apart : (ls : List (List Field)) → Readable ls → readLines (joined lineOf ls) ≡ shownLines ls
+pub lines-apart : (ls : List (List Field)) → AllReadable ls → readLines (joined lineOf ls) ≡ shownLines ls
 unfolding readLines each joined pieces every
 lines-apart [] e = refl
 lines-apart (fs ∷ ls) e =

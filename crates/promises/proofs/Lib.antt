@@ -18,5 +18,4 @@ pub mod Listed
 pub mod Fresh
 pub mod Runs
 pub mod Back
-pub mod Reader
 pub mod Determined

@@ -39,7 +39,7 @@ use Rattle.dump.proofs.Laws.{held-table, held-default, held-number}
 use Rattle.dump.proofs.Narrow.{default-narrow, table-narrow}
 use Rattle.listing.specs.Fits.{tableText}
 use Rattle.listing.proofs.Laws.{table-text, default-text, dump-below, list-number}
-use Rattle.promises.specs.Shown.{Field, word, number, shown, Again, visible, readable, Readable, shownLines, lineOf}
+use Rattle.promises.specs.Shown.{Field, word, number, shown, Again, visible, readable, AllReadable, shownLines, lineOf}
 use Rattle.promises.specs.Shown.{states, ranks, kinds, interruptFields, baseFields, extendedFields, tableFields}
 use Rattle.promises.specs.Shown.{linesTold, readLines}
 use Rattle.promises.proofs.Answered.{written-bytes}
@@ -311,7 +311,7 @@ module _ (e : Entry) (small : Bytes e) where
 
 each-readable :
     (f : Entry → List Field) (q : Entry → Bool) → ((e : Entry) → Bytes e → q e ≡ false → every readable (f e) ≡ true)
-    → {es : List Entry} → Small es → any q es ≡ false → Readable (each f es)
+    → {es : List Entry} → Small es → any q es ≡ false → AllReadable (each f es)
 unfolding each every any
 each-readable f q h small-none a = refl
 each-readable f q h (small-more {e} {es} b s) a =
@@ -320,7 +320,7 @@ each-readable f q h (small-more {e} {es} b s) a =
 
 table-readable :
     (p b a : ℕ) (t : List ℕ) → Bytes t → tableRefusal t ≡ 0 → p < memoryEnd → b ≤ 1 → a < memoryEnd
-    → Readable (tableFields p b a t)
+    → AllReadable (tableFields p b a t)
 unfolding tableFields every visible text baseEntries extendedEntries
 table-readable p b a t small r h k l =
     let es = baseEntries t in
@@ -329,7 +329,7 @@ table-readable p b a t small r h k l =
     let base = each-readable baseFields (wrongBase es) (λ e n q. base-readable e n es q) bases (base-right t r) in
     let ranges = ranges-right t r in
     let extended = each-readable extendedFields (wrongRange es) (λ e n q. extended-readable e n es q) others ranges in
-    let end : Readable ((word (text "end") ∷ []) ∷ []) = rw (word-readable (text "end") refl) in
+    let end : AllReadable ((word (text "end") ∷ []) ∷ []) = rw (word-readable (text "end") refl) in
     rw (
       word-readable (text "pointer") refl,
       address-readable 8 p (omega arith) h,
@@ -369,7 +369,7 @@ module _ (d : List ℕ) where
       let k = held-number d n e in
       rw (k .0, ne-eqb n 0 (λ z. omega (arith, k .1, z))) (sym (append-nil (refusedLine n)))
 
-  -- Its lines are those of the fields of what the dump reader answers;
+  -- The lines that the program writes are those of the fields of what the dump reader answers.
   pub output-lines : programOutput d ≡ joined lineOf (linesTold d (held d))
   output-lines = cases (held d) refl
     where
@@ -382,12 +382,12 @@ module _ (d : List ℕ) where
   refused-small n e = omega (arith, held-number d n e, dump-below d)
 
   module _ (small : Bytes d) where
-    -- each of these is readable: its number is small enough for its digits, its name one of MPS Table 4-8,
-    pub fields-readable : Readable (linesTold d (held d))
+    -- Each of these fields is readable: its number is small enough for its digits, its name one of MPS Table 4-8.
+    pub fields-readable : AllReadable (linesTold d (held d))
     unfolding linesTold every visible text
     fields-readable = cases (held d) refl
       where
-        cases : (r : Held) → held d ≡ r → Readable (linesTold d r)
+        cases : (r : Held) → held d ≡ r → AllReadable (linesTold d r)
         cases (Default n b) e =
             let k = default-narrow d n b e in
             let first = number-readable n (omega arith) in
@@ -400,15 +400,15 @@ module _ (d : List ℕ) where
         cases (Refused n) e =
             rw (word-readable (text "refused") refl, number-readable n (omega (arith, refused-small n e)))
 
-    -- so that its value is read again from what is shown (field j of line i),
+    -- The value of field j of line i is read again from what is shown.
     pub fields-again : (i j : ℕ) → Again (getD (getD (linesTold d (held d)) i []) j (word []))
     fields-again i j = lines-again (linesTold d (held d)) i j fields-readable
 
-    -- and cut at the ends of its lines and between their words it is the words that show them.
+    -- What the program writes, cut at the ends of its lines and between their words, is the words that show the fields.
     pub output-told : readLines (programOutput d) ≡ shownLines (linesTold d (held d))
     output-told = rw output-lines (lines-apart (linesTold d (held d)) fields-readable)
 
-    -- So for the call: the bytes that it says it wrote.
+    -- The same of the call: the bytes that it says it wrote.
     pub list-told : (room : List ℕ) (n : ℕ) → listed d room ≡ Written·Bytes n
         → readLines (take n (listLeft d room)) ≡ shownLines (linesTold d (held d))
     unfolding listed

@@ -3,14 +3,14 @@
 -- ends at all is proved with its contract, which asks nothing of its caller. Assumes nothing.
 use Prim.Native.Nat.{ℕ, suc, _/_, _<_, _^_}
 use mathlib.Core.Path.{_≡_, refl, sym, _∙_}
-use mathlib.Core.Bool.{Bool, true, false, not, _||_, or-true, true≢false}
+use mathlib.Core.Bool.{Bool, true, false, not, _||_, or-true, false≢true}
 use mathlib.Core.List.{List, [], _∷_, _++_, append-nil}
 use mathlib.Core.Logic.{_↔_}
 use native.Mathlib.Omega.{arith}
 use lib.ListN.{length, take, drop}
 use lib.Dec.{eqb, ltb}
 use borrow.Author.Tests.{eq-eqb, ne-eqb, eqb-true, eqb-false, le-ltb}
-use Rattle.mps.specs.Words.{text, same, among, any, each, only}
+use Rattle.mps.specs.Words.{text, same, among, any, each, only, first}
 use Rattle.mps.specs.Refusals.{Rule, _when_, refusal, roomNumber, baseNumber, extendedNumber, innerNumber}
 use Rattle.mps.specs.Layout.{knownRevision, partMost, headerSize, baseLength, extendedEnd, baseBytes}
 use Rattle.mps.specs.Sums.{sum256}
@@ -34,12 +34,13 @@ use Rattle.mps.specs.declared.Routed.the-variants.{Refused as Routed·Refused}
 use Rattle.mps.specs.declared.Seen.the-variants.{Refused as Seen·Refused}
 use Rattle.mps.specs.declared.Edited.the-variants.{Refused as Edited·Refused}
 use Rattle.mps.specs.declared.Written.the-variants.{Refused as Written·Refused}
-use Rattle.laws.proofs.Tests.{whether, either}
-use Rattle.laws.proofs.Refusals.{number, so, first-some, refusal-passed, absent-only, given-exactly, given-before}
+use Rattle.laws.proofs.Tests.{whether}
+use Rattle.laws.proofs.Lists.{among-none, among-cases, among-more, among-front}
+use Rattle.laws.proofs.Refusals.{number, so, first-some, first-none, refusal-append, refusal-passed, absent-only, given-exactly, given-before}
 use Rattle.sums.proofs.Laws.{stored-append}
 use Rattle.writer.proofs.Laws.{length-image}
 use Rattle.writer.proofs.Most.{early-fits}
-use Rattle.promises.specs.Numbered.{tableNumbers, pointerNumbers, editNumbers, addressNumbers, routeNumbers, listNumbers, laterNumbers, writeNumbers}
+use Rattle.promises.specs.Numbered.{tableNumbers, pointerNumbers, editNumbers, addressNumbers, routeNumbers, readNumbers, listNumbers, printNumbers, laterNumbers, writeNumbers}
 use Rattle.promises.proofs.Given.{Exactly}
 use Rattle.promises.proofs.Answered.{judged-refused, examined-refused, parted-refused, held-refused, written-refused, routed-refused, seen-refusal, edited-refused}
 use Rattle.promises.proofs.Headers.{header-sum, image-front, image-base-length}
@@ -56,17 +57,6 @@ refusal-among (n when false ∷ rows) = later (eqb (refusal rows) 0) (eqb (refus
     later true b c e = refl
     later false true c e = refl
     later false false c e = e
-
--- A list that is longer in its middle has all that it had.
-among-more : (x : ℕ) (a b c : List ℕ) → among x (a ++ c) ≡ true → among x (a ++ (b ++ c)) ≡ true
-unfolding among
-among-more x [] [] c e = e
-among-more x [] (y ∷ b) c e = rw (among-more x [] b c e, or-true)
-among-more x (y ∷ a) b c e = step (eqb x y) (among-more x a b c) e
-  where
-    step : (p : Bool) {q r : Bool} → (q ≡ true → r ≡ true) → (p || q) ≡ true → (p || r) ≡ true
-    step true f g = refl
-    step false f g = f g
 
 -- The rows of a dump, with or without those of a table, and some behind them.
 module _ (d : List ℕ) where
@@ -95,30 +85,24 @@ among-given : {m : ℕ} (n : ℕ) (ns : List ℕ) → (0 < m) × (m ≡ n) → a
 unfolding among
 among-given {m} n ns p e = rw (p .1, ne-eqb n 0 (λ z. omega (arith, p .0, p .1, z))) at e
 
-among-front : (x y : ℕ) (a : List ℕ) → among x (a ++ (y ∷ [])) ≡ true → eqb x y ≡ false → among x a ≡ true
-unfolding among
-among-front x y [] e f = absurd (true≢false (sym e ∙ rw f))
-among-front x y (z ∷ a) e f =
-    either (eqb x z) (among x (a ++ (y ∷ []))) e (λ q. rw q) (λ q. rw (among-front x y a q f, or-true))
-
 -- ---- "ends with an answer or a numbered refusal of document 01"
 
 module _ (t : List ℕ) (n : ℕ) where
-  table-among : among (tableRefusal t) (0 ∷ tableNumbers) ≡ true
+  pub refusal-numbered : among (tableRefusal t) (0 ∷ tableNumbers) ≡ true
   unfolding tableRefusal tableRules each
-  table-among = refusal-among (tableRules t)
+  refusal-numbered = refusal-among (tableRules t)
 
   pub judge-numbered : judged t ≡ Judged·Refused n → among n tableNumbers ≡ true
   unfolding judged
-  judge-numbered e = among-given n tableNumbers (judged-refused (tableRefusal t) n e) table-among
+  judge-numbered e = among-given n tableNumbers (judged-refused (tableRefusal t) n e) refusal-numbered
 
   pub examine-numbered : examined t ≡ Examined·Refused n → among n tableNumbers ≡ true
   unfolding examined
-  examine-numbered e = among-given n tableNumbers (examined-refused (tableRefusal t) (sections t) n e) table-among
+  examine-numbered e = among-given n tableNumbers (examined-refused (tableRefusal t) (sections t) n e) refusal-numbered
 
   pub parts-numbered : parted t ≡ Parted·Refused n → among n tableNumbers ≡ true
   unfolding parted
-  parts-numbered e = among-given n tableNumbers (parted-refused (tableRefusal t) (baseLength t) (extendedEnd t) n e) table-among
+  parts-numbered e = among-given n tableNumbers (parted-refused (tableRefusal t) (baseLength t) (extendedEnd t) n e) refusal-numbered
 
   pub address-numbered : (bus kind address : ℕ) → seen t bus kind address ≡ Seen·Refused n → among n addressNumbers ≡ true
   unfolding seen addressRules tableRules each
@@ -146,10 +130,10 @@ module _ (d : List ℕ) (n : ℕ) where
   unfolding pointed pointerRules each
   find-numbered e = among-given n pointerNumbers (held-refused d (refusal (pointerRules d)) n e) (refusal-among (pointerRules d))
 
-  pub read-numbered : held d ≡ Held·Refused n → among n (pointerNumbers ++ tableNumbers) ≡ true
+  pub read-numbered : held d ≡ Held·Refused n → among n readNumbers ≡ true
   unfolding held dumpRefusal dumpRules pointerRules each
   read-numbered e =
-      among-given n (pointerNumbers ++ tableNumbers) (held-refused d (dumpRefusal d) n e)
+      among-given n readNumbers (held-refused d (dumpRefusal d) n e)
       (rw (← append-nil (only (not (isDefault d)) (tableRules (tableIn d)))) (dump-among d (not (isDefault d)) []))
 
   pub list-numbered : (room : List ℕ) → listed d room ≡ Written·Refused n → among n listNumbers ≡ true
@@ -158,10 +142,10 @@ module _ (d : List ℕ) (n : ℕ) where
       among-given n listNumbers (written-refused (listRefusal d room) (length (listing d)) n e)
       (dump-among d (not (isDefault d)) (roomNumber when ltb (length room) (length (listing d)) ∷ []))
 
-  pub print-numbered : (room : List ℕ) → printed d room ≡ Written·Refused n → among n (19 ∷ []) ≡ true
+  pub print-numbered : (room : List ℕ) → printed d room ≡ Written·Refused n → among n printNumbers ≡ true
   unfolding printed printRefusal each
   print-numbered room e =
-      among-given n (19 ∷ []) (written-refused (printRefusal d room) (length (programOutput d)) n e)
+      among-given n printNumbers (written-refused (printRefusal d room) (length (programOutput d)) n e)
       (refusal-among (roomNumber when ltb (length room) (length (programOutput d)) ∷ []))
 
 -- An image whose parts fit passes 5 to 9: its length, its signature, its base length, its sum and its revision are made so.
@@ -260,7 +244,16 @@ module _ (p : Parts) (room : List ℕ) where
   unfolding written writeRefusal
   write-judged e = rw e
 
--- ---- The dump reader: the number of a dump is what its answer gives
+-- ---- An answer is a refusal with a number exactly when that is the call's number
+
+module _ (t : List ℕ) (n : ℕ) where
+  pub examine-exactly : (examined t ≡ Examined·Refused (suc n)) ↔ (tableRefusal t ≡ suc n)
+  unfolding examined
+  examine-exactly = (λ e. examined-refused (tableRefusal t) (sections t) (suc n) e .1, λ e. rw e)
+
+  pub parts-exactly : (parted t ≡ Parted·Refused (suc n)) ↔ (tableRefusal t ≡ suc n)
+  unfolding parted
+  parts-exactly = (λ e. parted-refused (tableRefusal t) (baseLength t) (extendedEnd t) (suc n) e .1, λ e. rw e)
 
 module _ (d : List ℕ) (n : ℕ) where
   pub read-exactly : (held d ≡ Held·Refused (suc n)) ↔ (dumpRefusal d ≡ suc n)
@@ -274,3 +267,55 @@ module _ (d : List ℕ) (n : ℕ) where
   pub list-exactly : (room : List ℕ) → (listed d room ≡ Written·Refused (suc n)) ↔ (listRefusal d room ≡ suc n)
   unfolding listed
   list-exactly room = (λ e. written-refused (listRefusal d room) (length (listing d)) (suc n) e .1, λ e. rw e)
+
+  pub print-exactly : (room : List ℕ) → (printed d room ≡ Written·Refused (suc n)) ↔ (printRefusal d room ≡ suc n)
+  unfolding printed
+  print-exactly room = (λ e. written-refused (printRefusal d room) (length (programOutput d)) (suc n) e .1, λ e. rw e)
+
+pub write-exactly : (p : Parts) (room : List ℕ) (n : ℕ) → (written p room ≡ Written·Refused (suc n)) ↔ (writeRefusal p room ≡ suc n)
+unfolding written
+write-exactly p room n = (λ e. written-refused (writeRefusal p room) (imageSize p) (suc n) e .1, λ e. rw e)
+
+-- No number is both the pointer's and the table's.
+not-both : (n : ℕ) → among n pointerNumbers ≡ true → among n (0 ∷ tableNumbers) ≡ true → ⊥
+unfolding among
+not-both n p q =
+    among-cases n 1 (2 ∷ 3 ∷ 4 ∷ []) p (λ e. false≢true (rw e at q)) (λ r.
+    among-cases n 2 (3 ∷ 4 ∷ []) r (λ e. false≢true (rw e at q)) (λ s.
+    among-cases n 3 (4 ∷ []) s (λ e. false≢true (rw e at q)) (λ t.
+    among-cases n 4 [] t (λ e. false≢true (rw e at q)) (among-none n))))
+
+-- The pointer's answer is the dump's, but that no table is judged yet: 1 to 4 are given by both.
+module _ (d : List ℕ) where
+  pointer-first : dumpRefusal d ≡ first (refusal (pointerRules d)) (refusal (only (not (isDefault d)) (tableRules (tableIn d))))
+  unfolding dumpRefusal dumpRules pointerRules among each
+  pointer-first = refusal-append (pointerRules d) (only (not (isDefault d)) (tableRules (tableIn d))) refl
+
+  rest-among : (b : Bool) → among (refusal (only b (tableRules (tableIn d)))) (0 ∷ tableNumbers) ≡ true
+  unfolding tableRules each refusal among
+  rest-among true = refusal-among (tableRules (tableIn d))
+  rest-among false = refl
+
+  pub find-refused : (n : ℕ) → pointed d ≡ Held·Refused n → held d ≡ Held·Refused n
+  unfolding pointed held
+  find-refused n e =
+      let k = held-refused d (refusal (pointerRules d)) n e in
+      let m = pointer-first ∙ first-some (refusal (pointerRules d)) _ (λ z. omega (arith, k .0, z)) in
+      rw m e
+
+  pub find-accepted : dumpRefusal d ≡ 0 → pointed d ≡ held d
+  unfolding pointed held
+  find-accepted z = let m = first-none (refusal (pointerRules d)) _ (sym pointer-first ∙ z) .0 in rw (m, z)
+
+  pub find-given : (n : ℕ) → among n pointerNumbers ≡ true → held d ≡ Held·Refused n → pointed d ≡ Held·Refused n
+  unfolding pointed held
+  find-given n q e =
+      let k = held-refused d (dumpRefusal d) n e in
+      whether (eqb (refusal (pointerRules d)) 0)
+      (λ z.
+      let table = refusal (only (not (isDefault d)) (tableRules (tableIn d))) in
+      let m : dumpRefusal d ≡ table = pointer-first ∙ rw (eqb-true (refusal (pointerRules d)) 0 z) in
+      absurd (not-both n q (rw (sym m ∙ k .1) at (rest-among (not (isDefault d))))))
+      (λ z.
+      let m = pointer-first ∙ first-some (refusal (pointerRules d)) _ (eqb-false (refusal (pointerRules d)) 0 z) in
+      rw m at e)

@@ -244,7 +244,7 @@ module _ (side : Side) (t : List ℕ) (itype bus irq : ℕ) (room : List ℕ) {n
             },
       )
 
--- ---- "255 names all": it is no APIC's own ID, and stands in no pair
+-- ---- "255 names all": no enabled APIC of an accepted table has that ID, so it stands in no pair
 
 -- What is enabled and of a type has its ID among those.
 enabled-among :
@@ -325,7 +325,7 @@ module _ (side : Side) (t : List ℕ) (itype bus irq : ℕ) (room : List ℕ) wh
       given-exactly (take 15 (routeRules side t itype bus irq room)) 19 (roomTooSmall side t itype bus irq room) []
       (omega arith) refl refl
 
-  -- A refusal is answered with its number; that it writes nothing is routes-kept (Numbered).
+  -- A refusal is answered with its number; that it writes nothing is routes-kept (Kept).
   pub route-refused : (n : ℕ) → (routed side t itype bus irq room ≡ Refused (suc n)) ↔ (routeRefusal side t itype bus irq room ≡ suc n)
   unfolding routed
   route-refused n = (

@@ -7,6 +7,7 @@ use mathlib.Core.List.{List, [], _∷_, _++_}
 abbrev pub tableNumbers : List ℕ
 tableNumbers = 5 ∷ 6 ∷ 7 ∷ 8 ∷ 9 ∷ 10 ∷ 11 ∷ 12 ∷ 13 ∷ 14 ∷ 15 ∷ 16 ∷ 17 ∷ 18 ∷ []
 
+-- 1 to 4: the dump and its pointer.
 abbrev pub pointerNumbers : List ℕ
 pointerNumbers = 1 ∷ 2 ∷ 3 ∷ 4 ∷ []
 
@@ -21,9 +22,17 @@ addressNumbers = tableNumbers ++ (24 ∷ [])
 abbrev pub routeNumbers : List ℕ
 routeNumbers = tableNumbers ++ (24 ∷ 19 ∷ [])
 
+-- The dump reader: 1 to 18.
+abbrev pub readNumbers : List ℕ
+readNumbers = pointerNumbers ++ tableNumbers
+
 -- "the listing tests 1 to 18, then 19"
 abbrev pub listNumbers : List ℕ
 listNumbers = pointerNumbers ++ (tableNumbers ++ (19 ∷ []))
+
+-- The program's text is refused by a room too small alone.
+abbrev pub printNumbers : List ℕ
+printNumbers = 19 ∷ []
 
 -- "It refuses 7 if the base would pass 4,096, 13 if the extended part would, then 19 ..; then the finished image is judged":
 -- the header that the writer makes passes 5 to 9.

@@ -83,7 +83,7 @@ Again (number n) = value 10 decimalValue (shown (number n)) ≡ n
 Again (address k n) = value 16 hexValue (shown (address k n)) ≡ n
 Again (name n) = padded (shown (name n)) ≡ n
 
--- Whether it can be: a decimal below 65,536, an address that has no more digits, a name of MPS Table 4-8.
+-- Whether a field's value can be read again: a decimal below 65,536, an address that has no more digits, a name of MPS Table 4-8.
 unfoldable pub fits : Field → Bool
 fits (word w) = true
 fits (choice ws k) = eqb (placeOf (getD ws k []) ws) k
@@ -99,8 +99,8 @@ unfoldable pub readable : Field → Bool
 readable f = visible (shown f) && fits f
 
 -- Lines of fields: that every one is readable, and the words that show them.
-abbrev pub Readable : List (List Field) → Type 0
-Readable ls = every (every readable) ls ≡ true
+abbrev pub AllReadable : List (List Field) → Type 0
+AllReadable ls = every (every readable) ls ≡ true
 
 abbrev pub shownLines : List (List Field) → List (List (List ℕ))
 shownLines ls = each (each shown) ls

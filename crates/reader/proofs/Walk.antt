@@ -1,6 +1,8 @@
--- What the reader does at each place of any buffer (`Stays`, `Gives`), and what it hands out of an accepted table
--- (`Reads`). The words of document 01 that a law answers stand with the theorem of the same name, in promises' Reader.
--- Assumes nothing.
+-- The reader at any place of any bytes (`Stays`, `Gives`), and what it hands out of an accepted table (`Reads`). In a buffer
+-- under 44 bytes, below 44, and at or past the ends, no entry is given and the place stays. In the base part and in the
+-- extended part an entry is given exactly when document 01's words hold of the bytes there (`given-`), and it is those
+-- bytes; else the place stays (`stays-`). Of an accepted table the reader hands out the base entries and then the extended
+-- entries, all of them in order. Assumes nothing.
 use Prim.Native.Nat.{ℕ, zero, suc, _+_, _≤_, _<_, _-_}
 use mathlib.Core.Path.{_≡_, refl, sym, _∙_}
 use mathlib.Core.Bool.{false, not, and-false}
@@ -39,15 +41,19 @@ module _ (t : List ℕ) (place : ℕ) where
       let s = sym (found-some t place n e (λ z. omega (arith, h, z))) in
       record { more = h; some = s; bytes = rw (← e); next = omega (arith, e); inside = k }
 
+  -- No place both gives an entry and stays.
   pub not-both : {n : ℕ} → Gives t place n → Stays t place → ⊥
   not-both g s = omega (arith, g .more, g .next, s .same)
 
+  -- "so does any place in a buffer under 44 bytes"
   pub stays-short : length t < headerSize → Stays t place
   stays-short h = stays (size-short t place h)
 
+  -- "A place below 44"
   pub stays-header : place < headerSize → Stays t place
   stays-header h = stays (size-header t place h)
 
+  -- ".. at or past the end": the header's ends, cut at the buffer's.
   pub stays-past : readBaseEnd t ≤ place → readExtendedEnd t ≤ place → Stays t place
   stays-past h k =
       whether (ltb (length t) headerSize)
@@ -71,6 +77,7 @@ module _ (t : List ℕ) (place : ℕ) (long : headerSize ≤ length t) (high : h
     base-whole : (n : ℕ) → n ≡ baseStep here → whole place n (readBaseEnd t) ≡ sizeAt t place
     base-whole n e = size-base t place long high refl below (whole-step t place (readBaseEnd t) e refl)
 
+    -- ".. or where no whole entry stands": no such type, or cut by the end.
     pub stays-base-type : lastBaseType < type here → Stays t place
     unfolding baseStep
     stays-base-type k =
@@ -82,6 +89,7 @@ module _ (t : List ℕ) (place : ℕ) (long : headerSize ≤ length t) (high : h
       unfolding baseStep
       typed = base-whole typeLength (rw (le-leb (type here) lastBaseType kind))
 
+      -- "From 44 to the base end an entry has its type's length"
       pub given-base : place + typeLength ≤ readBaseEnd t → Gives t place typeLength
       given-base k =
           let e = whole-fits place typeLength (readBaseEnd t) below (omega arith) ∙ typed in
@@ -100,6 +108,7 @@ module _ (t : List ℕ) (place : ℕ) (long : headerSize ≤ length t) (high : h
     no-length : 0 ≡ extendedStep here → Stays t place
     no-length e = stays t place (whole-fits place 0 (readExtendedEnd t) below (omega arith) ∙ extended-whole 0 e)
 
+    -- ".. with type at least 128 and length at least 2"; a length byte past the buffer's end is 0.
     pub stays-extended-type : type here < firstExtendedType → Stays t place
     unfolding extendedStep
     stays-extended-type k = no-length (rw (lt-leb firstExtendedType (type here) k))
@@ -114,6 +123,7 @@ module _ (t : List ℕ) (place : ℕ) (long : headerSize ≤ length t) (high : h
       stated =
           extended-whole lengthByte (rw (le-leb firstExtendedType (type here) kind, le-leb leastLength lengthByte enough))
 
+      -- ".. from there to the extended end its length byte's"
       pub given-extended : place + lengthByte ≤ readExtendedEnd t → Gives t place lengthByte
       given-extended k =
           let e = whole-fits place lengthByte (readExtendedEnd t) below (omega arith) ∙ stated in
@@ -183,6 +193,7 @@ module _ (t : List ℕ) (long : headerSize ≤ length t) (inside : baseLength t 
       rw (c, take-take k (base - at) here fit) (reads-more g r))
       (λ l. reads-done t baseEntryLength base at (omega (arith, ltb-false at base l)))
 
+-- "From 44 to the base end": the base entries of an accepted table, in its order.
 pub reads-base : (t : List ℕ) → tableRefusal t ≡ 0 → Reads t headerSize (baseEntries t) (baseLength t)
 unfolding baseEntries
 reads-base t a =
@@ -255,6 +266,7 @@ module _
       rw (c, take-take k (end - at) here fit) (reads-more g r))
       (λ l. reads-done t extendedEntryLength end at (omega (arith, ltb-false at end l)))
 
+-- ".. from there to the extended end": the extended entries, in order.
 pub reads-extended : (t : List ℕ) → tableRefusal t ≡ 0 → Reads t (baseLength t) (extendedEntries t) (extendedEnd t)
 unfolding extendedEntries
 reads-extended t a =
@@ -268,6 +280,8 @@ reads-append : {t : List ℕ} {p q r : ℕ} {es fs : List Entry} → Reads t p e
 reads-append reads-none b = b
 reads-append (reads-more g a) b = reads-more g (reads-append a b)
 
+-- Of an accepted table the reader hands out, from place 44 on, the base entries and then the extended entries, all of them in
+-- order, and comes to the extended end; there it stays.
 pub reads-table : (t : List ℕ) → tableRefusal t ≡ 0
     → Reads t headerSize (baseEntries t ++ extendedEntries t) (extendedEnd t) × Stays t (extendedEnd t)
 reads-table t a =

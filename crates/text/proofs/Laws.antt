@@ -1,13 +1,13 @@
 -- Laws of text in a room: how long each word is, and how it is stored. Assumes nothing.
-use Prim.Native.Nat.{ℕ, zero, suc, _+_, _-_, _*_, _/_, _%_, _^_, _≤_, _<_}
+use Prim.Native.Nat.{ℕ, zero, suc, _+_, _-_, _*_, _/_, _%_, _≤_, _<_}
 use mathlib.Core.Path.{_≡_, refl, ap, sym, _∙_}
 use mathlib.Core.Bool.{Bool, true, false, cond}
 use mathlib.Core.List.{List, [], _∷_, _++_}
 use native.Mathlib.Omega.{arith}
 use native.Mathlib.Numerals.{add-one}
-use native.Mathlib.Nat.{add-zero, add-suc, add-assoc, pow-succ', pow-zero, div-one, div-div-eq-div-mul}
+use native.Mathlib.Nat.{add-assoc}
 use lib.ListN.{length, getD, set, drop, drop-of-length-le, length-append}
-use lib.Seq.{drop-cons, sets, length-sets, set-comm, set-set, set-out}
+use lib.Seq.{drop-cons, sets, set-comm, set-set}
 use lib.Dec.{ltb, leb}
 use borrow.Author.Tests.{ltb-true, ltb-false, leb-true, lt-ltb, le-ltb, le-leb, lt-leb, eq-eqb, ne-eqb}
 use Rattle.mps.specs.Words.{keep, flag, each}
@@ -15,7 +15,7 @@ use Rattle.mps.specs.Sums.{total}
 use Rattle.mps.specs.Listing.{digits, decimalDigit, hexDigit, decimalWidth, decimal, hex, notSpace, unpadded, line}
 use Rattle.laws.proofs.Tests.{whether, same-test}
 use Rattle.laws.proofs.Lists.{keep-in, keep-out}
-use Rattle.laws.proofs.Stores.{sets-append, sets-past}
+use Rattle.laws.proofs.Stores.{sets-append}
 use Rattle.slices.proofs.Laws.{sets-next}
 use Rattle.text.specs.Text.{ended, stored}
 

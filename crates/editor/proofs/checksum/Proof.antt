@@ -1,5 +1,4 @@
 -- `editor::checksum` meets its contract: the base is what the header says.
-use mathlib.Core.List.{List}
 use mathlib.Core.Path.{sym, ap, _∙_}
 use native.Mathlib.Omega.{arith}
 use Prim.Native.Nat.{ℕ}

@@ -1,5 +1,5 @@
 -- The addresses of a table, and 0 where there is none.
-use mathlib.Core.Path.{sym, ap, _∙_}
+use mathlib.Core.Path.{ap, _∙_}
 use borrow.Author.Needs.{needs}
 use Rattle.exports.specs.Codes.{addressesCode}
 use Rattle.exports.proofs.Laws.{no-addresses-default, addresses-are, no-addresses-refused}

@@ -6,9 +6,6 @@ use lib.Seq.{length-take-le}
 use Rattle.header.proofs.Laws.{is-short, is-long, is-past, is-missummed, is-unknown, is-good}
 use Rattle.header.proofs.behind_signature.Statement.{statement}
 use Rattle.header.proofs.behind_signature.Tie as tie
-use Rattle.header.proofs.behind_signature.Reads as reads
-use Rattle.header.proofs.behind_signature.Lts as lts
-use Rattle.sums.proofs.sum.Reads as sum-reads
 
 returns : tie.Need-returns
 returns c = is-short _ (omega arith)

@@ -5,11 +5,6 @@ use native.Mathlib.Omega.{arith}
 use Rattle.header.proofs.Laws.{signature-size, is-cut, is-unsigned, is-signed}
 use Rattle.header.proofs.refusal.Statement.{statement}
 use Rattle.header.proofs.refusal.Tie as tie
-use Rattle.header.proofs.refusal.Reads as reads
-use Rattle.header.proofs.refusal.Lts as lts
-use Rattle.header.proofs.behind_signature.Reads as behind-signature-reads
-use Rattle.numbers.proofs.le16.Reads as le16-reads
-use Rattle.slices.proofs.same.Reads as same-reads
 
 returns : tie.Need-returns
 returns c = is-cut _ (c .if1 .taken)

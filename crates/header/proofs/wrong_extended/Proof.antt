@@ -4,12 +4,6 @@ use native.Mathlib.Omega.{arith}
 use Rattle.header.proofs.Laws.{is-too-long, is-outside, is-summed}
 use Rattle.header.proofs.wrong_extended.Statement.{statement}
 use Rattle.header.proofs.wrong_extended.Tie as tie
-use Rattle.header.proofs.wrong_extended.Reads as reads
-use Rattle.header.proofs.wrong_extended.Lts as lts
-use Rattle.numbers.proofs.byte.Reads as byte-reads
-use Rattle.numbers.proofs.le16.Reads as le16-reads
-use Rattle.std.proofs.num.wrapping_add_u8.Reads as wrapping-add-u8-reads
-use Rattle.sums.proofs.sum.Reads as sum-reads
 
 le16-requires : tie.Need-le16-requires
 le16-requires c κs = search needs

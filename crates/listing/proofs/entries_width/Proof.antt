@@ -5,7 +5,7 @@ use native.Mathlib.Omega.{arith}
 use lib.ListN.{length, length-append}
 use borrow.Author.Needs.{needs}
 use Rattle.mps.specs.Words.{part}
-use Rattle.listing.specs.Fits.{entryLine}
+use Rattle.lines.specs.Entry.{entryLine}
 use Rattle.listing.proofs.Walk.{Walking, walking-first, walking-done, walking-ahead, walking-next, walking-most}
 use Rattle.listing.proofs.Longest.{entries-most}
 use Rattle.listing.proofs.entries_width.Statement.{statement}

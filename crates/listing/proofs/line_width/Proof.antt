@@ -1,6 +1,6 @@
 -- The two ways of the definition's choice.
 use borrow.Author.Needs.{needs}
-use Rattle.listing.proofs.Walk.{base-line, extended-line}
+use Rattle.lines.proofs.EntryLines.{base-line, extended-line}
 use Rattle.listing.proofs.line_width.Statement.{statement}
 use Rattle.listing.proofs.line_width.Tie as tie
 

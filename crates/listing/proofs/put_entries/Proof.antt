@@ -37,19 +37,19 @@ same-length c =
 returns : tie.Need-returns Inv-loop μ-loop
 returns c = walking-done (c .before .before .loop .inv) (c .before .after .ensures) (c .if1 .taken)
 
-sub-put-line : tie.Need-sub-put-line Inv-loop μ-loop
-sub-put-line c = search needs
+sub-line : tie.Need-sub-line Inv-loop μ-loop
+sub-line c = search needs
 
-part-put-line-start : tie.Need-part-put-line-start Inv-loop μ-loop
-part-put-line-start c = search needs
+part-line-start : tie.Need-part-line-start Inv-loop μ-loop
+part-line-start c = search needs
 
-part-put-line-end : tie.Need-part-put-line-end Inv-loop μ-loop
-part-put-line-end c =
+part-line-end : tie.Need-part-line-end Inv-loop μ-loop
+part-line-end c =
     let i = c .before in
     walking-ahead (i .before .before .loop .inv) (i .before .after .ensures) (i .if1 .left) .inside
 
-put-line-requires : tie.Need-put-line-requires Inv-loop μ-loop
-put-line-requires c κs = search needs
+line-requires : tie.Need-line-requires Inv-loop μ-loop
+line-requires c κs = search needs
 
 add-put : tie.Need-add-put Inv-loop μ-loop
 add-put c =
@@ -60,7 +60,7 @@ add-put c =
     omega (
       arith,
       w .so .place,
-      c .before .before .put-line .ensures .0,
+      c .before .before .line .ensures .0,
       walking-most w (i .before .after .ensures) (i .if1 .left),
       entries-most (s .args .t .now) (s .pre .0),
       s .pre .1,
@@ -76,7 +76,7 @@ loop-again c =
     let i = c .before .before .before .before .before in
     let l = i .before .before in
     let w = l .loop .inv in
-    let p = c .before .before .put-line .ensures in
+    let p = c .before .before .line .ensures in
     walking-next w (i .before .after .ensures) (i .if1 .left)
     (then (w .so) (record { place = ap (λ n. l .loop .put + n) (p .0); text = p .1 }))
 
@@ -90,10 +90,10 @@ put-entries-spec =
     after-requires
     same-length
     returns
-    sub-put-line
-    part-put-line-start
-    part-put-line-end
-    put-line-requires
+    sub-line
+    part-line-start
+    part-line-end
+    line-requires
     add-put
     loop-less
     loop-again)

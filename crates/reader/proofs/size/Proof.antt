@@ -1,5 +1,4 @@
 -- One law for each way out.
-use native.Mathlib.Omega.{arith}
 use borrow.Author.Needs.{needs}
 use Rattle.reader.proofs.Laws.{size-short, size-header, size-base, size-extended, size-past}
 use Rattle.reader.proofs.size.Statement.{statement}

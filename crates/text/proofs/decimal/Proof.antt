@@ -1,7 +1,4 @@
 -- A number that needs no loop, or any, where it has room; and else its width.
-use Prim.Native.Nat.{_+_, _≤_}
-use native.Mathlib.Omega.{arith}
-use lib.ListN.{length}
 use borrow.Author.Needs.{needs}
 use Rattle.mps.specs.Listing.{decimal}
 use Rattle.text.specs.Text.{ended}
