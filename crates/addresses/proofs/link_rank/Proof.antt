@@ -4,9 +4,6 @@ use Rattle.addresses.proofs.Ranks.{link-on, link-off}
 use Rattle.addresses.proofs.link_rank.Statement.{statement}
 use Rattle.addresses.proofs.link_rank.Tie as tie
 
-shared-slice-read-if1 : tie.Need-shared-slice-read-if1
-shared-slice-read-if1 c = search needs
-
 returns : tie.Need-returns
 returns c kind address = link-on _ (c .before .before .pre .1) kind address (c .if1 .taken)
 
@@ -14,4 +11,4 @@ returns-2 : tie.Need-returns-2
 returns-2 c kind address = link-off _ (c .before .before .pre .1) kind address (c .if1 .left)
 
 pub link-rank-spec : {M : Type 1} → statement M
-link-rank-spec = tie.close (tie.spec shared-slice-read-if1 returns returns-2)
+link-rank-spec = tie.close (tie.spec (λ c. search needs) returns returns-2)

@@ -11,11 +11,8 @@ returns c = lists-kind _ _ (c .if1 .taken)
 returns-2 : tie.Need-returns-2
 returns-2 c = lists-past _ _ (c .before .if1 .left) (c .if2 .taken)
 
-ranges-requires : tie.Need-ranges-requires
-ranges-requires c κs = search needs
-
 returns-3 : tie.Need-returns-3
 returns-3 c = c .ranges .ensures ∙ lists-below _ _ (c .before .before .if1 .left) (c .before .if2 .left)
 
 pub lists-spec : {M : Type 1} → statement M
-lists-spec = tie.close (tie.spec returns returns-2 ranges-requires returns-3)
+lists-spec = tie.close (tie.spec returns returns-2 (λ c κs. search needs) returns-3)

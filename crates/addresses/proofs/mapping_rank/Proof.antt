@@ -5,15 +5,6 @@ use Rattle.addresses.proofs.Ranks.{mapping-kind, mapping-below, mapping
 use Rattle.addresses.proofs.mapping_rank.Statement.{statement}
 use Rattle.addresses.proofs.mapping_rank.Tie as tie
 
-le64-requires : tie.Need-le64-requires
-le64-requires c κs = search needs
-
-le64-requires-2 : tie.Need-le64-requires-2
-le64-requires-2 c κs = search needs
-
-shared-slice-read-if1 : tie.Need-shared-slice-read-if1
-shared-slice-read-if1 c = search needs
-
 returns : tie.Need-returns
 returns c = mapping-kind _ (c .before .before .before .before .before .pre .1) _ _ (c .if1 .taken)
 
@@ -35,9 +26,7 @@ pub mapping-rank-spec : {M : Type 1} → statement M
 mapping-rank-spec =
     tie.close
     (tie.spec
-    le64-requires
-    le64-requires-2
-    shared-slice-read-if1
+    (λ c κs. search needs) (λ c κs. search needs) (λ c. search needs)
     returns
     returns-2
     returns-3

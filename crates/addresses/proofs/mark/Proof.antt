@@ -23,48 +23,6 @@ abbrev μ-loop : tie.MeasureT-loop
 loop-holds : tie.Need-loop-holds Inv-loop μ-loop
 loop-holds c = (refl, omega arith, c .before .before .pre .1)
 
-sub-loop : tie.Need-sub-loop Inv-loop μ-loop
-sub-loop c = search needs
-
-add-wide : tie.Need-add-wide Inv-loop μ-loop
-add-wide c = search needs
-
-shared-slice-read-wide : tie.Need-shared-slice-read-wide Inv-loop μ-loop
-shared-slice-read-wide c = search needs
-
-wide-requires : tie.Need-wide-requires Inv-loop μ-loop
-wide-requires c κs = search needs
-
-add-rank : tie.Need-add-rank Inv-loop μ-loop
-add-rank c = search needs
-
-sub-rank : tie.Need-sub-rank Inv-loop μ-loop
-sub-rank c = search needs
-
-part-rank-start : tie.Need-part-rank-start Inv-loop μ-loop
-part-rank-start c = search needs
-
-part-rank-end : tie.Need-part-rank-end Inv-loop μ-loop
-part-rank-end c = search needs
-
-rank-requires : tie.Need-rank-requires Inv-loop μ-loop
-rank-requires c κs = search needs
-
-slice-read-higher : tie.Need-slice-read-higher Inv-loop μ-loop
-slice-read-higher c = search needs
-
-higher-requires : tie.Need-higher-requires Inv-loop μ-loop
-higher-requires c κs = search needs
-
-slice-write-marks : tie.Need-slice-write-marks Inv-loop μ-loop
-slice-write-marks c = search needs
-
-add-at : tie.Need-add-at Inv-loop μ-loop
-add-at c = search needs
-
-loop-less : tie.Need-loop-less Inv-loop μ-loop
-loop-less c = search needs
-
 loop-again : tie.Need-loop-again Inv-loop μ-loop
 loop-again c =
     let l = c .before .before .before .before .before .before .before .loop in
@@ -75,9 +33,6 @@ loop-again c =
     (w .result) (w .ensures .0) (a .kind) (a .address) (l .marks)
     (r .result) (c .higher .result) (r .ensures) (c .higher .ensures) in
     (sym next ∙ l .inv .0, omega arith, rw length-set (l .inv .2))
-
-same-length : tie.Need-same-length Inv-loop μ-loop
-same-length c = search needs
 
 returns : tie.Need-returns Inv-loop μ-loop
 returns c =
@@ -93,20 +48,9 @@ mark-spec =
     Inv-loop
     μ-loop
     loop-holds
-    sub-loop
-    add-wide
-    shared-slice-read-wide
-    wide-requires
-    add-rank
-    sub-rank
-    part-rank-start
-    part-rank-end
-    rank-requires
-    slice-read-higher
-    higher-requires
-    slice-write-marks
-    add-at
-    loop-less
+    (λ c. search needs) (λ c. search needs) (λ c. search needs) (λ c κs. search needs) (λ c. search needs)
+    (λ c. search needs) (λ c. search needs) (λ c. search needs) (λ c κs. search needs) (λ c. search needs)
+    (λ c κs. search needs) (λ c. search needs) (λ c. search needs) (λ c. search needs)
     loop-again
-    same-length
+    (λ c. search needs)
     returns)

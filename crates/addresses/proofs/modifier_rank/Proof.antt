@@ -4,15 +4,6 @@ use Rattle.addresses.proofs.Ranks.{modifier-takes, modifier-adds, modif
 use Rattle.addresses.proofs.modifier_rank.Statement.{statement}
 use Rattle.addresses.proofs.modifier_rank.Tie as tie
 
-le32-requires : tie.Need-le32-requires
-le32-requires c κs = search needs
-
-touched-requires : tie.Need-touched-requires
-touched-requires c κs = search needs
-
-shared-slice-read-if2 : tie.Need-shared-slice-read-if2
-shared-slice-read-if2 c = search needs
-
 returns : tie.Need-returns
 returns c kind address e =
     modifier-takes _ (c .before .before .before .before .before .before .pre .1) kind address
@@ -33,4 +24,4 @@ returns-3 c kind address e =
 pub modifier-rank-spec : {M : Type 1} → statement M
 modifier-rank-spec =
     tie.close
-    (tie.spec le32-requires touched-requires shared-slice-read-if2 returns returns-2 returns-3)
+    (tie.spec (λ c κs. search needs) (λ c κs. search needs) (λ c. search needs) returns returns-2 returns-3)

@@ -4,23 +4,11 @@ use Rattle.addresses.proofs.Ranks.{rank-other}
 use Rattle.addresses.proofs.rank.Statement.{statement}
 use Rattle.addresses.proofs.rank.Tie as tie
 
-shared-slice-read-found : tie.Need-shared-slice-read-found
-shared-slice-read-found c = search needs
-
-mapping-rank-requires : tie.Need-mapping-rank-requires
-mapping-rank-requires c κs = search needs
-
 returns : tie.Need-returns
 returns c = c .mapping-rank .ensures
 
-link-rank-requires : tie.Need-link-rank-requires
-link-rank-requires c κs = search needs
-
 returns-2 : tie.Need-returns-2
 returns-2 c = c .link-rank .ensures _ _
-
-modifier-rank-requires : tie.Need-modifier-rank-requires
-modifier-rank-requires c κs = search needs
 
 returns-3 : tie.Need-returns-3
 returns-3 c = c .modifier-rank .ensures _ _ (c .before .before .before .before .before .before .pre .1)
@@ -32,11 +20,10 @@ pub rank-spec : {M : Type 1} → statement M
 rank-spec =
     tie.close
     (tie.spec
-    shared-slice-read-found
-    mapping-rank-requires
+    (λ c. search needs) (λ c κs. search needs)
     returns
-    link-rank-requires
+    (λ c κs. search needs)
     returns-2
-    modifier-rank-requires
+    (λ c κs. search needs)
     returns-3
     returns-4)

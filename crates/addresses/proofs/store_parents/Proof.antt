@@ -21,33 +21,6 @@ abbrev μ-loop : tie.MeasureT-loop
 loop-holds : tie.Need-loop-holds Inv-loop μ-loop
 loop-holds c = (refl, omega arith, c .before .before .pre)
 
-sub-loop : tie.Need-sub-loop Inv-loop μ-loop
-sub-loop c = search needs
-
-add-wide : tie.Need-add-wide Inv-loop μ-loop
-add-wide c = search needs
-
-shared-slice-read-wide : tie.Need-shared-slice-read-wide Inv-loop μ-loop
-shared-slice-read-wide c = search needs
-
-wide-requires : tie.Need-wide-requires Inv-loop μ-loop
-wide-requires c κs = search needs
-
-add-parents : tie.Need-add-parents Inv-loop μ-loop
-add-parents c = search needs
-
-shared-slice-read-parents : tie.Need-shared-slice-read-parents Inv-loop μ-loop
-shared-slice-read-parents c = search needs
-
-slice-write-parents : tie.Need-slice-write-parents Inv-loop μ-loop
-slice-write-parents c = search needs
-
-add-at : tie.Need-add-at Inv-loop μ-loop
-add-at c = search needs
-
-loop-less : tie.Need-loop-less Inv-loop μ-loop
-loop-less c = search needs
-
 loop-again : tie.Need-loop-again Inv-loop μ-loop
 loop-again c =
     let l = c .before .before .before .before .loop in
@@ -56,9 +29,6 @@ loop-again c =
     let next = parented-next 8 s (l .at) (omega arith) (omega arith) (omega arith) (w .result) (w .ensures .0)
     (l .parents) in
     (sym next ∙ l .inv .0, omega arith, rw length-set (l .inv .2))
-
-same-length : tie.Need-same-length Inv-loop μ-loop
-same-length c = search needs
 
 returns : tie.Need-returns Inv-loop μ-loop
 returns c =
@@ -73,15 +43,8 @@ store-parents-spec =
     Inv-loop
     μ-loop
     loop-holds
-    sub-loop
-    add-wide
-    shared-slice-read-wide
-    wide-requires
-    add-parents
-    shared-slice-read-parents
-    slice-write-parents
-    add-at
-    loop-less
+    (λ c. search needs) (λ c. search needs) (λ c. search needs) (λ c κs. search needs) (λ c. search needs)
+    (λ c. search needs) (λ c. search needs) (λ c. search needs) (λ c. search needs)
     loop-again
-    same-length
+    (λ c. search needs)
     returns)

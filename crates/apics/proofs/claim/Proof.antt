@@ -17,35 +17,11 @@ Inv-loop s size taken₀ all₀ at₀ taken all at = (claims taken all (rows siz
 abbrev μ-loop : tie.MeasureT-loop
 μ-loop s size taken₀ all₀ at₀ taken all at = length s - at
 
-empty-requires : tie.Need-empty-requires Inv-loop μ-loop
-empty-requires c κs = search needs
-
 returns : tie.Need-returns Inv-loop μ-loop
 returns c = claimed-none _ _ _ _ (omega arith) (c .before .empty .ensures)
 
 loop-holds : tie.Need-loop-holds Inv-loop μ-loop
 loop-holds c = (rw (c .before .empty .ensures) (sym (claimed-rows _ _ _ (omega arith))), omega arith)
-
-sub-loop : tie.Need-sub-loop Inv-loop μ-loop
-sub-loop c = search needs
-
-add-id : tie.Need-add-id Inv-loop μ-loop
-add-id c = search needs
-
-shared-slice-read-id : tie.Need-shared-slice-read-id Inv-loop μ-loop
-shared-slice-read-id c = search needs
-
-add-flags : tie.Need-add-flags Inv-loop μ-loop
-add-flags c = search needs
-
-shared-slice-read-flags : tie.Need-shared-slice-read-flags Inv-loop μ-loop
-shared-slice-read-flags c = search needs
-
-put-requires : tie.Need-put-requires Inv-loop μ-loop
-put-requires c κs = search needs
-
-contains-requires : tie.Need-contains-requires Inv-loop μ-loop
-contains-requires c κs = search needs
 
 returns-2 : tie.Need-returns-2 Inv-loop μ-loop
 returns-2 c =
@@ -54,15 +30,6 @@ returns-2 c =
     let hit = sym (c .before .contains .ensures) ∙ c .if3 .taken in
     let stop = taken-at (l .taken) (l .all) (a .size) (a .s .now) (l .at) (omega arith) (omega arith) (omega arith) (omega arith) hit in
     rw (c .before .before .before .put .ensures) (sym stop ∙ l .inv .0)
-
-put-requires-2 : tie.Need-put-requires-2 Inv-loop μ-loop
-put-requires-2 c κs = search needs
-
-add-at : tie.Need-add-at Inv-loop μ-loop
-add-at c = search needs
-
-loop-less : tie.Need-loop-less Inv-loop μ-loop
-loop-less c = search needs
 
 loop-again : tie.Need-loop-again Inv-loop μ-loop
 loop-again c =
@@ -91,19 +58,12 @@ claim-spec =
     (tie.spec
     Inv-loop
     μ-loop
-    empty-requires
+    (λ c κs. search needs)
     returns
     loop-holds
-    sub-loop
-    add-id
-    shared-slice-read-id
-    add-flags
-    shared-slice-read-flags
-    put-requires
-    contains-requires
+    (λ c. search needs) (λ c. search needs) (λ c. search needs) (λ c. search needs) (λ c. search needs)
+    (λ c κs. search needs) (λ c κs. search needs)
     returns-2
-    put-requires-2
-    add-at
-    loop-less
+    (λ c κs. search needs) (λ c. search needs) (λ c. search needs)
     loop-again
     returns-3)

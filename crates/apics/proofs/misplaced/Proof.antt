@@ -24,21 +24,6 @@ abbrev μ-loop : tie.MeasureT-loop
 loop-holds : tie.Need-loop-holds Inv-loop μ-loop
 loop-holds c = (sym (any-keep misplaced enabled _), omega arith)
 
-sub-loop : tie.Need-sub-loop Inv-loop μ-loop
-sub-loop c = search needs
-
-add-if1 : tie.Need-add-if1 Inv-loop μ-loop
-add-if1 c = search needs
-
-shared-slice-read-if1 : tie.Need-shared-slice-read-if1 Inv-loop μ-loop
-shared-slice-read-if1 c = search needs
-
-add-le32 : tie.Need-add-le32 Inv-loop μ-loop
-add-le32 c = search needs
-
-le32-requires : tie.Need-le32-requires Inv-loop μ-loop
-le32-requires c κs = search needs
-
 returns : tie.Need-returns Inv-loop μ-loop
 returns c =
     let s = c .before .before .before .before .before .before .before .args .s .now in
@@ -53,12 +38,6 @@ returns-2 c =
     let address = c .before .before .le32 in
     let hit = lost-between s (l .at) (address .result) (omega arith) (address .ensures) (omega arith) in
     sym (seek-stop lost 8 s (l .at) (omega arith) (omega arith) (omega arith) hit) ∙ l .inv .0
-
-add-at : tie.Need-add-at Inv-loop μ-loop
-add-at c = search needs
-
-loop-less : tie.Need-loop-less Inv-loop μ-loop
-loop-less c = search needs
 
 loop-again : tie.Need-loop-again Inv-loop μ-loop
 loop-again c =
@@ -85,14 +64,9 @@ misplaced-spec =
     Inv-loop
     μ-loop
     loop-holds
-    sub-loop
-    add-if1
-    shared-slice-read-if1
-    add-le32
-    le32-requires
+    (λ c. search needs) (λ c. search needs) (λ c. search needs) (λ c. search needs) (λ c κs. search needs)
     returns
     returns-2
-    add-at
-    loop-less
+    (λ c. search needs) (λ c. search needs)
     loop-again
     returns-3)

@@ -21,15 +21,6 @@ abbrev μ-loop : tie.MeasureT-loop
 loop-holds : tie.Need-loop-holds Inv-loop μ-loop
 loop-holds c = (boot-start _, omega arith, omega arith)
 
-sub-loop : tie.Need-sub-loop Inv-loop μ-loop
-sub-loop c = search needs
-
-add-flags : tie.Need-add-flags Inv-loop μ-loop
-add-flags c = search needs
-
-shared-slice-read-flags : tie.Need-shared-slice-read-flags Inv-loop μ-loop
-shared-slice-read-flags c = search needs
-
 returns : tie.Need-returns Inv-loop μ-loop
 returns c =
     let s = c .before .before .before .before .before .args .s .now in
@@ -41,12 +32,6 @@ returns-2 c =
     let s = c .before .before .before .before .before .before .args .s .now in
     let l = c .before .before .before .before .before .loop in
     sym (boot-second (l .found) s (l .at) (omega arith) (omega arith) (omega arith) (omega arith)) ∙ l .inv .0
-
-add-at : tie.Need-add-at Inv-loop μ-loop
-add-at c = search needs
-
-loop-less : tie.Need-loop-less Inv-loop μ-loop
-loop-less c = search needs
 
 loop-again : tie.Need-loop-again Inv-loop μ-loop
 loop-again c =
@@ -74,12 +59,9 @@ wrong-boot-spec =
     Inv-loop
     μ-loop
     loop-holds
-    sub-loop
-    add-flags
-    shared-slice-read-flags
+    (λ c. search needs) (λ c. search needs) (λ c. search needs)
     returns
     returns-2
-    add-at
-    loop-less
+    (λ c. search needs) (λ c. search needs)
     loop-again
     returns-3)

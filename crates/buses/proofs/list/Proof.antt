@@ -16,23 +16,8 @@ Inv-loop s ids₀ at₀ ids at = (lists ids (rows 8 (drop at s)) ≡ listed s) �
 abbrev μ-loop : tie.MeasureT-loop
 μ-loop s ids₀ at₀ ids at = length s - at
 
-empty-requires : tie.Need-empty-requires Inv-loop μ-loop
-empty-requires c κs = search needs
-
 loop-holds : tie.Need-loop-holds Inv-loop μ-loop
 loop-holds c = (rw (c .empty .ensures) (listed-rows _), omega arith)
-
-sub-loop : tie.Need-sub-loop Inv-loop μ-loop
-sub-loop c = search needs
-
-add-id : tie.Need-add-id Inv-loop μ-loop
-add-id c = search needs
-
-shared-slice-read-id : tie.Need-shared-slice-read-id Inv-loop μ-loop
-shared-slice-read-id c = search needs
-
-contains-requires : tie.Need-contains-requires Inv-loop μ-loop
-contains-requires c κs = search needs
 
 returns : tie.Need-returns Inv-loop μ-loop
 returns c =
@@ -41,39 +26,12 @@ returns c =
     let again = sym (c .before .contains .ensures) ∙ c .if1 .taken in
     sym (again-at (l .ids) s (l .at) (omega arith) (omega arith) again) ∙ l .inv .0
 
-add-is-bus-name : tie.Need-add-is-bus-name Inv-loop μ-loop
-add-is-bus-name c = search needs
-
-add-is-bus-name-2 : tie.Need-add-is-bus-name-2 Inv-loop μ-loop
-add-is-bus-name-2 c = search needs
-
-sub-is-bus-name : tie.Need-sub-is-bus-name Inv-loop μ-loop
-sub-is-bus-name c = search needs
-
-part-is-bus-name-start : tie.Need-part-is-bus-name-start Inv-loop μ-loop
-part-is-bus-name-start c = search needs
-
-part-is-bus-name-end : tie.Need-part-is-bus-name-end Inv-loop μ-loop
-part-is-bus-name-end c = search needs
-
-is-bus-name-requires : tie.Need-is-bus-name-requires Inv-loop μ-loop
-is-bus-name-requires c κs = search needs
-
-put-requires : tie.Need-put-requires Inv-loop μ-loop
-put-requires c κs = search needs
-
 returns-2 : tie.Need-returns-2 Inv-loop μ-loop
 returns-2 c =
     let s = c .before .before .before .before .before .before .before .before .before .before .args .s .now in
     let l = c .before .before .before .before .before .before .before .loop in
     let unknown = sym (c .before .is-bus-name .ensures) ∙ c .if2 .left in
     sym (unknown-at (l .ids) s (l .at) (omega arith) (omega arith) unknown) ∙ l .inv .0
-
-add-at : tie.Need-add-at Inv-loop μ-loop
-add-at c = search needs
-
-loop-less : tie.Need-loop-less Inv-loop μ-loop
-loop-less c = search needs
 
 loop-again : tie.Need-loop-again Inv-loop μ-loop
 loop-again c =
@@ -95,22 +53,13 @@ list-spec =
     (tie.spec
     Inv-loop
     μ-loop
-    empty-requires
+    (λ c κs. search needs)
     loop-holds
-    sub-loop
-    add-id
-    shared-slice-read-id
-    contains-requires
+    (λ c. search needs) (λ c. search needs) (λ c. search needs) (λ c κs. search needs)
     returns
-    add-is-bus-name
-    add-is-bus-name-2
-    sub-is-bus-name
-    part-is-bus-name-start
-    part-is-bus-name-end
-    is-bus-name-requires
-    put-requires
+    (λ c. search needs) (λ c. search needs) (λ c. search needs) (λ c. search needs) (λ c. search needs)
+    (λ c κs. search needs) (λ c κs. search needs)
     returns-2
-    add-at
-    loop-less
+    (λ c. search needs) (λ c. search needs)
     loop-again
     returns-3)

@@ -5,9 +5,6 @@ use borrow.Author.Needs.{needs}
 use Rattle.dump.proofs.find.Statement.{statement}
 use Rattle.dump.proofs.find.Tie as tie
 
-read-requires : tie.Need-read-requires
-read-requires c κs = search needs
-
 returns : tie.Need-returns
 returns c = says-1 _ (read-wrong _ (c .before .read .ensures) (c .if1 .taken))
 
@@ -16,12 +13,6 @@ spot-requires c κs =
     let read = c .before .before .read .ensures in
     let sound = read-sound _ read (c .before .if1 .left) in
     (sound, read-all _ read sound)
-
-enum-told : tie.Need-enum-told
-enum-told c = search needs
-
-enum-known-spotted : tie.Need-enum-known-spotted
-enum-known-spotted c = search needs
 
 said-requires : tie.Need-said-requires
 said-requires c κs =
@@ -41,11 +32,10 @@ pub find-spec : {M : Type 1} → statement M
 find-spec =
     tie.close
     (tie.spec
-    read-requires
+    (λ c κs. search needs)
     returns
     spot-requires
-    enum-told
-    enum-known-spotted
+    (λ c. search needs) (λ c. search needs)
     said-requires
     returns-2
     returns-3)

@@ -6,18 +6,6 @@ use borrow.Author.Needs.{needs}
 use Rattle.dump.proofs.read.Statement.{statement}
 use Rattle.dump.proofs.read.Tie as tie
 
-find-requires : tie.Need-find-requires
-find-requires c κs = search needs
-
-enum-known-found : tie.Need-enum-known-found
-enum-known-found c = search needs
-
-enum-known-found-2 : tie.Need-enum-known-found-2
-enum-known-found-2 c = search needs
-
-enum-known-found-3 : tie.Need-enum-known-found-3
-enum-known-found-3 c = search needs
-
 sub-refusal : tie.Need-sub-refusal
 sub-refusal c =
     let find = c .before .before .before .find .ensures in
@@ -38,9 +26,6 @@ part-refusal-end c =
     let told = c .before .found3 .given .1 in
     let pointed = pointed-table _ _ _ _ _ _ (sym find ∙ told) in
     omega (arith, pointed .inside)
-
-refusal-requires : tie.Need-refusal-requires
-refusal-requires c κs = search needs
 
 returns : tie.Need-returns
 returns c =
@@ -73,14 +58,11 @@ pub read-spec : {M : Type 1} → statement M
 read-spec =
     tie.close
     (tie.spec
-    find-requires
-    enum-known-found
-    enum-known-found-2
-    enum-known-found-3
+    (λ c κs. search needs) (λ c. search needs) (λ c. search needs) (λ c. search needs)
     sub-refusal
     part-refusal-start
     part-refusal-end
-    refusal-requires
+    (λ c κs. search needs)
     returns
     returns-2
     returns-3

@@ -5,34 +5,10 @@ use borrow.Author.Needs.{needs}
 use Rattle.dump.proofs.said.Statement.{statement}
 use Rattle.dump.proofs.said.Tie as tie
 
-add-p : tie.Need-add-p
-add-p c = search needs
-
-sub-p : tie.Need-sub-p
-sub-p c = search needs
-
-part-p-start : tie.Need-part-p-start
-part-p-start c = search needs
-
-part-p-end : tie.Need-part-p-end
-part-p-end c = search needs
-
-shared-slice-read-if1 : tie.Need-shared-slice-read-if1
-shared-slice-read-if1 c = search needs
-
 returns : tie.Need-returns
 returns c =
     let pre = c .before .before .before .before .pre in
     says-3 _ (pre .0 .0) (pre .1) (c .if1 .taken)
-
-shared-slice-read-number : tie.Need-shared-slice-read-number
-shared-slice-read-number c = search needs
-
-shared-slice-read-imcr : tie.Need-shared-slice-read-imcr
-shared-slice-read-imcr c = search needs
-
-le32-requires : tie.Need-le32-requires
-le32-requires c κs = search needs
 
 returns-2 : tie.Need-returns-2
 returns-2 c =
@@ -64,26 +40,17 @@ returns-5 c =
     let table = c .before .before .before .le32 .ensures in
     no-table _ (pre .0 .0) (pre .1) revision table (c .before .if3 .left) (c .if5 .taken)
 
-holding-requires : tie.Need-holding-requires
-holding-requires c κs = search needs
-
 sub-t20 : tie.Need-sub-t20
 sub-t20 c =
     let pre = c .before .before .before .before .before .before .before .before .before .before .before .before .pre in
     let fits = holding-fits _ (pre .0 .0) (pre .0 .1) _ (c .before .holding .ensures) in
     omega (arith, fits)
 
-cast-t10 : tie.Need-cast-t10
-cast-t10 c = search needs
-
 add-t12 : tie.Need-add-t12
 add-t12 c =
     let pre = c .before .before .before .before .before .before .before .before .before .before .before .before .before .pre in
     let fits = holding-fits _ (pre .0 .0) (pre .0 .1) _ (c .before .before .holding .ensures) in
     omega (arith, fits)
-
-cast-t21 : tie.Need-cast-t21
-cast-t21 c = search needs
 
 add-t22 : tie.Need-add-t22
 add-t22 c =
@@ -106,23 +73,17 @@ pub said-spec : {M : Type 1} → statement M
 said-spec =
     tie.close
     (tie.spec
-    add-p
-    sub-p
-    part-p-start
-    part-p-end
-    shared-slice-read-if1
+    (λ c. search needs) (λ c. search needs) (λ c. search needs) (λ c. search needs) (λ c. search needs)
     returns
-    shared-slice-read-number
-    shared-slice-read-imcr
-    le32-requires
+    (λ c. search needs) (λ c. search needs) (λ c κs. search needs)
     returns-2
     returns-3
     returns-4
     returns-5
-    holding-requires
+    (λ c κs. search needs)
     sub-t20
-    cast-t10
+    (λ c. search needs)
     add-t12
-    cast-t21
+    (λ c. search needs)
     add-t22
     returns-6)

@@ -4,22 +4,10 @@ use borrow.Author.Needs.{needs}
 use Rattle.dump.proofs.spot.Statement.{statement}
 use Rattle.dump.proofs.spot.Tie as tie
 
-searched-first-requires : tie.Need-searched-first-requires
-searched-first-requires c κs = search needs
-
 spot-in-requires : tie.Need-spot-in-requires
 spot-in-requires c κs =
     let pre = c .before .before .pre in
     first-region-fits _ (pre .0) (pre .1) (c .searched-first .ensures)
-
-enum-known-spotted : tie.Need-enum-known-spotted
-enum-known-spotted c = search needs
-
-enum-told : tie.Need-enum-told
-enum-told c = search needs
-
-of-kind-requires : tie.Need-of-kind-requires
-of-kind-requires c κs = search needs
 
 spot-in-requires-2 : tie.Need-spot-in-requires-2
 spot-in-requires-2 c κs =
@@ -47,11 +35,9 @@ pub spot-spec : {M : Type 1} → statement M
 spot-spec =
     tie.close
     (tie.spec
-    searched-first-requires
+    (λ c κs. search needs)
     spot-in-requires
-    enum-known-spotted
-    enum-told
-    of-kind-requires
+    (λ c. search needs) (λ c. search needs) (λ c κs. search needs)
     spot-in-requires-2
     returns
     returns-2)

@@ -5,27 +5,6 @@ use borrow.Author.Needs.{needs}
 use Rattle.dump.proofs.spot_in.Statement.{statement}
 use Rattle.dump.proofs.spot_in.Tie as tie
 
-cast-size : tie.Need-cast-size
-cast-size c = search needs
-
-add-search : tie.Need-add-search
-add-search c = search needs
-
-sub-search : tie.Need-sub-search
-sub-search c = search needs
-
-part-search-start : tie.Need-part-search-start
-part-search-start c = search needs
-
-part-search-end : tie.Need-part-search-end
-part-search-end c = search needs
-
-search-requires : tie.Need-search-requires
-search-requires c κs = search needs
-
-enum-known-found : tie.Need-enum-known-found
-enum-known-found c = search needs
-
 cast-t13 : tie.Need-cast-t13
 cast-t13 c =
     let start = c .before .before .before .before .before .before .before in
@@ -47,9 +26,6 @@ add-t15 c =
     let inside = found-inside _ (start .args .r) (start .pre) search _ (c .before .before .found .given .1) in
     omega (arith, inside, start .pre)
 
-enum-told : tie.Need-enum-told
-enum-told c = search needs
-
 returns : tie.Need-returns
 returns c =
     let fits = c .before .before .before .before .before .before .before .before .pre in
@@ -64,16 +40,11 @@ pub spot-in-spec : {M : Type 1} → statement M
 spot-in-spec =
     tie.close
     (tie.spec
-    cast-size
-    add-search
-    sub-search
-    part-search-start
-    part-search-end
-    search-requires
-    enum-known-found
+    (λ c. search needs) (λ c. search needs) (λ c. search needs) (λ c. search needs) (λ c. search needs)
+    (λ c κs. search needs) (λ c. search needs)
     cast-t13
     add-t14
     add-t15
-    enum-told
+    (λ c. search needs)
     returns
     returns-2)

@@ -9,20 +9,8 @@ use Rattle.mps.specs.Sums.{sum256, toStore}
 use Rattle.editor.proofs.checksum.Statement.{statement}
 use Rattle.editor.proofs.checksum.Tie as tie
 
-le16-requires : tie.Need-le16-requires
-le16-requires c κs = search needs
-
-cast-base : tie.Need-cast-base
-cast-base c = search needs
-
 slice-aggregate-sum : tie.Need-slice-aggregate-sum
 slice-aggregate-sum c = sym (length-take-le _ (c .before .before .before .args .t .now) (omega arith))
-
-sum-requires : tie.Need-sum-requires
-sum-requires c κs = search needs
-
-to-store-requires : tie.Need-to-store-requires
-to-store-requires c κs = search needs
 
 returns : tie.Need-returns
 returns c =
@@ -30,4 +18,4 @@ returns c =
     c .to-store .ensures ∙ ap toStore (c .before .sum .ensures ∙ ap (λ (n : ℕ). sum256 (take n t)) (c .before .before .before .le16 .ensures))
 
 pub checksum-spec : {M : Type 1} → statement M
-checksum-spec = tie.close (tie.spec le16-requires cast-base slice-aggregate-sum sum-requires to-store-requires returns)
+checksum-spec = tie.close (tie.spec (λ c κs. search needs) (λ c. search needs) slice-aggregate-sum (λ c κs. search needs) (λ c κs. search needs) returns)

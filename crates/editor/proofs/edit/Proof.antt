@@ -5,15 +5,6 @@ use Rattle.editor.proofs.Laws.{edit-refused, ready, edit-exchanged}
 use Rattle.editor.proofs.edit.Statement.{statement}
 use Rattle.editor.proofs.edit.Tie as tie
 
-test-requires : tie.Need-test-requires
-test-requires c κs = search needs
-
-enum-known-found : tie.Need-enum-known-found
-enum-known-found c = search needs
-
-enum-known-found-2 : tie.Need-enum-known-found-2
-enum-known-found-2 c = search needs
-
 exchange-requires : tie.Need-exchange-requires
 exchange-requires c κs =
     let a = c .before .before .before .before .before .before .before .before .before .args in
@@ -21,18 +12,12 @@ exchange-requires c κs =
     ready (a .t .now) (editOf (a .place) (a .stated .now) (a .wanted .now)) (m .0 .0)
     (c .before .before .before .before .test .ensures) (m .1)
 
-same-length : tie.Need-same-length
-same-length c = search needs
-
 returns : tie.Need-returns
 returns c =
     let a = c .before .before .before .before .before .before .before .before .args in
     let m = c .before .found .given in
     edit-refused (a .t .now) (editOf (a .place) (a .stated .now) (a .wanted .now)) (m .0 .0)
     (c .before .before .before .test .ensures) (m .1)
-
-same-length-2 : tie.Need-same-length-2
-same-length-2 c = search needs
 
 returns-2 : tie.Need-returns-2
 returns-2 c =
@@ -45,11 +30,9 @@ pub edit-spec : {M : Type 1} → statement M
 edit-spec =
     tie.close
     (tie.spec
-    test-requires
-    enum-known-found
-    enum-known-found-2
+    (λ c κs. search needs) (λ c. search needs) (λ c. search needs)
     exchange-requires
-    same-length
+    (λ c. search needs)
     returns
-    same-length-2
+    (λ c. search needs)
     returns-2)

@@ -4,26 +4,11 @@ use Rattle.editor.proofs.Exchanges.{base-inside, header-inside, back-le
 use Rattle.editor.proofs.exchange.Statement.{statement}
 use Rattle.editor.proofs.exchange.Tie as tie
 
-slice-read-old : tie.Need-slice-read-old
-slice-read-old c = search needs
-
-put-requires : tie.Need-put-requires
-put-requires c κs = search needs
-
 checksum-requires : tie.Need-checksum-requires
 checksum-requires c κs =
     let p = c .before .before .before in
     let a = p .before .before .before .before .before .before in
     base-inside (a .args .t .now) (a .args .at) (a .args .stated .now) (a .args .wanted .now) (a .pre) (p .put .ensures)
-
-slice-write-t : tie.Need-slice-write-t
-slice-write-t c = search needs
-
-refusal-requires : tie.Need-refusal-requires
-refusal-requires c κs = search needs
-
-same-length : tie.Need-same-length
-same-length c = search needs
 
 returns : tie.Need-returns
 returns c =
@@ -61,12 +46,9 @@ pub exchange-spec : {M : Type 1} → statement M
 exchange-spec =
     tie.close
     (tie.spec
-    slice-read-old
-    put-requires
+    (λ c. search needs) (λ c κs. search needs)
     checksum-requires
-    slice-write-t
-    refusal-requires
-    same-length
+    (λ c. search needs) (λ c κs. search needs) (λ c. search needs)
     returns
     put-requires-2
     same-length-2

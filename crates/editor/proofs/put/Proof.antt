@@ -7,17 +7,8 @@ use borrow.Author.Needs.{needs}
 use Rattle.editor.proofs.put.Statement.{statement}
 use Rattle.editor.proofs.put.Tie as tie
 
-copy-requires : tie.Need-copy-requires
-copy-requires c κs = search needs
-
-slice-write-t : tie.Need-slice-write-t
-slice-write-t c = search needs
-
-same-length : tie.Need-same-length
-same-length c = search needs
-
 returns : tie.Need-returns
 returns c = ap (λ (l : List ℕ). set l 7 (c .before .before .before .before .before .before .args .sum)) (c .before .before .copy .ensures)
 
 pub put-spec : {M : Type 1} → statement M
-put-spec = tie.close (tie.spec copy-requires slice-write-t same-length returns)
+put-spec = tie.close (tie.spec (λ c κs. search needs) (λ c. search needs) (λ c. search needs) returns)

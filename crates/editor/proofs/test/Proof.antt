@@ -38,20 +38,11 @@ here-end :
     → 44 + c .before .before .offset .result + c .size .result ≤ length (c .before .before .before .before .before .before .before .before .before .before .before .before .args .t .now)
 here-end c = found-end _ _ _ (here (c .before .before)) (c .size .ensures)
 
-refusal-requires : tie.Need-refusal-requires
-refusal-requires c κs = search needs
-
 returns : tie.Need-returns
 returns c =
     let a = c .before .before .before .before .before .args in
     tested-table (a .t .now) (editOf (a .place) (a .stated .now) (a .wanted .now)) (c .before .refusal .result)
     (c .before .refusal .ensures) (c .if1 .taken)
-
-le16-requires : tie.Need-le16-requires
-le16-requires c κs = search needs
-
-cast-count : tie.Need-cast-count
-cast-count c = search needs
 
 returns-2 : tie.Need-returns-2
 returns-2 c =
@@ -59,12 +50,6 @@ returns-2 c =
     let i = c .before .before in
     tested-20 (a .t .now) (editOf (a .place) (a .stated .now) (a .wanted .now))
     (sym (i .before .refusal .ensures) ∙ i .if1 .left) (omega (arith, c .before .le16 .ensures, c .if2 .taken))
-
-le16-requires-2 : tie.Need-le16-requires-2
-le16-requires-2 c κs = search needs
-
-cast-base : tie.Need-cast-base
-cast-base c = search needs
 
 sub-offset : tie.Need-sub-offset
 sub-offset c = inside c .0
@@ -75,20 +60,11 @@ part-offset-start c = inside c .0
 part-offset-end : tie.Need-part-offset-end
 part-offset-end c = inside c .1
 
-offset-requires : tie.Need-offset-requires
-offset-requires c κs = search needs
-
 add-at : tie.Need-add-at
 add-at c = let h = here-inside c in omega arith
 
 shared-slice-read-kind : tie.Need-shared-slice-read-kind
 shared-slice-read-kind c = here-inside (c .before)
-
-size-requires : tie.Need-size-requires
-size-requires c κs = search needs
-
-byte-requires : tie.Need-byte-requires
-byte-requires c κs = search needs
 
 returns-3 : tie.Need-returns-3
 returns-3 c =
@@ -100,17 +76,8 @@ returns-3 c =
 add-standing : tie.Need-add-standing
 add-standing c = let h = here-end (c .before .before) in omega arith
 
-sub-standing : tie.Need-sub-standing
-sub-standing c = search needs
-
-part-standing-start : tie.Need-part-standing-start
-part-standing-start c = search needs
-
 part-standing-end : tie.Need-part-standing-end
 part-standing-end c = here-end (c .before .before)
-
-same-requires : tie.Need-same-requires
-same-requires c κs = search needs
 
 returns-4 : tie.Need-returns-4
 returns-4 c =
@@ -132,26 +99,22 @@ pub test-spec : {M : Type 1} → statement M
 test-spec =
     tie.close
     (tie.spec
-    refusal-requires
+    (λ c κs. search needs)
     returns
-    le16-requires
-    cast-count
+    (λ c κs. search needs) (λ c. search needs)
     returns-2
-    le16-requires-2
-    cast-base
+    (λ c κs. search needs) (λ c. search needs)
     sub-offset
     part-offset-start
     part-offset-end
-    offset-requires
+    (λ c κs. search needs)
     add-at
     shared-slice-read-kind
-    size-requires
-    byte-requires
+    (λ c κs. search needs) (λ c κs. search needs)
     returns-3
     add-standing
-    sub-standing
-    part-standing-start
+    (λ c. search needs) (λ c. search needs)
     part-standing-end
-    same-requires
+    (λ c κs. search needs)
     returns-4
     returns-5)

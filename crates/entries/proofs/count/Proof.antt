@@ -17,12 +17,6 @@ abbrev μ-loop : tie.MeasureT-loop
 loop-holds : tie.Need-loop-holds Inv-loop μ-loop
 loop-holds c = counts-first (c .before .args .s .now)
 
-shared-slice-read-size : tie.Need-shared-slice-read-size Inv-loop μ-loop
-shared-slice-read-size c = search needs
-
-size-requires : tie.Need-size-requires Inv-loop μ-loop
-size-requires c κs = search needs
-
 add-at : tie.Need-add-at Inv-loop μ-loop
 add-at c =
     let l = c .before .before .before in
@@ -55,8 +49,7 @@ count-spec =
     Inv-loop
     μ-loop
     loop-holds
-    shared-slice-read-size
-    size-requires
+    (λ c. search needs) (λ c κs. search needs)
     add-at
     add-n
     loop-less

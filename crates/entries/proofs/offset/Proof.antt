@@ -22,20 +22,11 @@ returns c =
     let l = c .before .before in
     passes-here (l .before .before .args .s .now) (l .loop .inv) (c .before .loop-test .taken) (c .if1 .taken)
 
-shared-slice-read-size : tie.Need-shared-slice-read-size Inv-loop μ-loop
-shared-slice-read-size c = search needs
-
-size-requires : tie.Need-size-requires Inv-loop μ-loop
-size-requires c κs = search needs
-
 add-at : tie.Need-add-at Inv-loop μ-loop
 add-at c =
     let l = c .before .before .before .before in
     let b = size-bounds (getD (l .before .before .args .s .now) (l .loop .at) 0 ∷ []) in
     omega arith
-
-sub-left : tie.Need-sub-left Inv-loop μ-loop
-sub-left c = search needs
 
 loop-less : tie.Need-loop-less Inv-loop μ-loop
 loop-less c =
@@ -59,10 +50,9 @@ offset-spec =
     μ-loop
     loop-holds
     returns
-    shared-slice-read-size
-    size-requires
+    (λ c. search needs) (λ c κs. search needs)
     add-at
-    sub-left
+    (λ c. search needs)
     loop-less
     loop-again
     returns-2)

@@ -5,14 +5,8 @@ use Rattle.exports.proofs.Laws.{is-whole, is-nothing, short-entry}
 use Rattle.exports.proofs.found_code.Statement.{statement}
 use Rattle.exports.proofs.found_code.Tie as tie
 
-enum-known-answer : tie.Need-enum-known-answer
-enum-known-answer c = search needs
-
 coded-requires : tie.Need-coded-requires
 coded-requires c κs = let few = short-entry _ (c .before .before .before .pre) (c .before .answer .given .1) in omega (arith, few)
-
-enum-told : tie.Need-enum-told
-enum-told c = search needs
 
 returns : tie.Need-returns
 returns c = is-whole _ (c .before .before .answer .given .1) (c .coded .ensures)
@@ -21,4 +15,4 @@ returns-2 : tie.Need-returns-2
 returns-2 c = is-nothing (c .enum-told .given .1)
 
 pub found-code-spec : {M : Type 1} → statement M
-found-code-spec = tie.close (tie.spec enum-known-answer coded-requires enum-told returns returns-2)
+found-code-spec = tie.close (tie.spec (λ c. search needs) coded-requires (λ c. search needs) returns returns-2)

@@ -5,9 +5,6 @@ use Rattle.exports.proofs.Laws.{is-parts, is-part-refused, near-parts}
 use Rattle.exports.proofs.parted_code.Statement.{statement}
 use Rattle.exports.proofs.parted_code.Tie as tie
 
-enum-known-answer : tie.Need-enum-known-answer
-enum-known-answer c = search needs
-
 mul-coded : tie.Need-mul-coded
 mul-coded c = let few = near-parts _ _ (c .before .before .before .pre) (c .before .answer .given .1) in omega (arith, few)
 
@@ -16,12 +13,6 @@ add-coded c = let few = near-parts _ _ (c .before .before .before .pre) (c .befo
 
 coded-requires : tie.Need-coded-requires
 coded-requires c κs = let few = near-parts _ _ (c .before .before .before .pre) (c .before .answer .given .1) in omega (arith, few)
-
-enum-known-answer-2 : tie.Need-enum-known-answer-2
-enum-known-answer-2 c = search needs
-
-refused-requires : tie.Need-refused-requires
-refused-requires c κs = search needs
 
 returns : tie.Need-returns
 returns c = is-parts _ _ (c .before .before .answer .given .1) (c .coded .ensures)
@@ -33,11 +24,10 @@ pub parted-code-spec : {M : Type 1} → statement M
 parted-code-spec =
     tie.close
     (tie.spec
-    enum-known-answer
+    (λ c. search needs)
     mul-coded
     add-coded
     coded-requires
-    enum-known-answer-2
-    refused-requires
+    (λ c. search needs) (λ c κs. search needs)
     returns
     returns-2)

@@ -7,9 +7,6 @@ use Rattle.exports.proofs.Laws.{address-eight}
 use Rattle.exports.proofs.ruxtajma_address.Statement.{statement}
 use Rattle.exports.proofs.ruxtajma_address.Tie as tie
 
-seen-requires : tie.Need-seen-requires
-seen-requires c κs = search needs
-
 seen-code-requires : tie.Need-seen-code-requires
 seen-code-requires c κs =
     let bytes = c .before .shared-slice-known .given in
@@ -19,4 +16,4 @@ returns : tie.Need-returns
 returns c = c .seen-code .ensures ∙ ap seenCode (c .before .seen .ensures)
 
 pub ruxtajma-address-spec : {M : Type 1} → statement M
-ruxtajma-address-spec = tie.close (tie.spec seen-requires seen-code-requires returns)
+ruxtajma-address-spec = tie.close (tie.spec (λ c κs. search needs) seen-code-requires returns)

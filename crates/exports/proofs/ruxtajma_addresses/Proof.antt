@@ -6,30 +6,6 @@ use Rattle.exports.proofs.Laws.{no-addresses-default, addresses-are, no
 use Rattle.exports.proofs.ruxtajma_addresses.Statement.{statement}
 use Rattle.exports.proofs.ruxtajma_addresses.Tie as tie
 
-read-requires : tie.Need-read-requires
-read-requires c κs = search needs
-
-enum-known-answer : tie.Need-enum-known-answer
-enum-known-answer c = search needs
-
-enum-known-answer-2 : tie.Need-enum-known-answer-2
-enum-known-answer-2 c = search needs
-
-cast-result : tie.Need-cast-result
-cast-result c = search needs
-
-mul-result : tie.Need-mul-result
-mul-result c = search needs
-
-cast-result-2 : tie.Need-cast-result-2
-cast-result-2 c = search needs
-
-add-result : tie.Need-add-result
-add-result c = search needs
-
-enum-known-answer-3 : tie.Need-enum-known-answer-3
-enum-known-answer-3 c = search needs
-
 returns : tie.Need-returns
 returns c = no-addresses-default _ _ (c .before .answer .given .1) ∙ ap addressesCode (c .before .before .before .read .ensures)
 
@@ -43,14 +19,8 @@ pub ruxtajma-addresses-spec : {M : Type 1} → statement M
 ruxtajma-addresses-spec =
     tie.close
     (tie.spec
-    read-requires
-    enum-known-answer
-    enum-known-answer-2
-    cast-result
-    mul-result
-    cast-result-2
-    add-result
-    enum-known-answer-3
+    (λ c κs. search needs) (λ c. search needs) (λ c. search needs) (λ c. search needs) (λ c. search needs)
+    (λ c. search needs) (λ c. search needs) (λ c. search needs)
     returns
     returns-2
     returns-3)

@@ -7,9 +7,6 @@ use Rattle.exports.proofs.Laws.{entry-eight}
 use Rattle.exports.proofs.ruxtajma_entry.Statement.{statement}
 use Rattle.exports.proofs.ruxtajma_entry.Tie as tie
 
-entry-requires : tie.Need-entry-requires
-entry-requires c κs = search needs
-
 found-code-requires : tie.Need-found-code-requires
 found-code-requires c κs =
     let bytes = c .before .shared-slice-known .given in
@@ -19,4 +16,4 @@ returns : tie.Need-returns
 returns c = c .found-code .ensures ∙ ap foundCode (c .before .entry .ensures)
 
 pub ruxtajma-entry-spec : {M : Type 1} → statement M
-ruxtajma-entry-spec = tie.close (tie.spec entry-requires found-code-requires returns)
+ruxtajma-entry-spec = tie.close (tie.spec (λ c κs. search needs) found-code-requires returns)

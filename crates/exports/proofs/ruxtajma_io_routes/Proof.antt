@@ -7,16 +7,10 @@ use Rattle.exports.proofs.Laws.{routes-eight}
 use Rattle.exports.proofs.ruxtajma_io_routes.Statement.{statement}
 use Rattle.exports.proofs.ruxtajma_io_routes.Tie as tie
 
-io-requires : tie.Need-io-requires
-io-requires c κs = search needs
-
 routed-code-requires : tie.Need-routed-code-requires
 routed-code-requires c κs =
     let bytes = c .before .before .before .before .before .shared-slice-known .given in
     routes-eight _ _ _ _ _ _ (λ i. omega (arith, bytes i)) (c .before .before .io .ensures .0)
-
-same-length : tie.Need-same-length
-same-length c = search needs
 
 returns : tie.Need-returns
 returns c =
@@ -24,4 +18,4 @@ returns c =
     (c .routed-code .ensures ∙ ap routedCode (l .ensures .0), l .ensures .1)
 
 pub ruxtajma-io-routes-spec : {M : Type 1} → statement M
-ruxtajma-io-routes-spec = tie.close (tie.spec io-requires routed-code-requires same-length returns)
+ruxtajma-io-routes-spec = tie.close (tie.spec (λ c κs. search needs) routed-code-requires (λ c. search needs) returns)

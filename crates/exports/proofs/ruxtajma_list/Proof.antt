@@ -6,14 +6,8 @@ use Rattle.exports.proofs.Laws.{list-eight}
 use Rattle.exports.proofs.ruxtajma_list.Statement.{statement}
 use Rattle.exports.proofs.ruxtajma_list.Tie as tie
 
-list-requires : tie.Need-list-requires
-list-requires c κs = search needs
-
 written-code-requires : tie.Need-written-code-requires
 written-code-requires c κs = list-eight _ _ (c .before .before .list .ensures .0)
-
-same-length : tie.Need-same-length
-same-length c = search needs
 
 returns : tie.Need-returns
 returns c =
@@ -21,4 +15,4 @@ returns c =
     (c .written-code .ensures ∙ ap writtenCode (l .ensures .0), l .ensures .1)
 
 pub ruxtajma-list-spec : {M : Type 1} → statement M
-ruxtajma-list-spec = tie.close (tie.spec list-requires written-code-requires same-length returns)
+ruxtajma-list-spec = tie.close (tie.spec (λ c κs. search needs) written-code-requires (λ c. search needs) returns)

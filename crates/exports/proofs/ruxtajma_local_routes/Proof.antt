@@ -7,16 +7,10 @@ use Rattle.exports.proofs.Laws.{routes-eight}
 use Rattle.exports.proofs.ruxtajma_local_routes.Statement.{statement}
 use Rattle.exports.proofs.ruxtajma_local_routes.Tie as tie
 
-local-requires : tie.Need-local-requires
-local-requires c κs = search needs
-
 routed-code-requires : tie.Need-routed-code-requires
 routed-code-requires c κs =
     let bytes = c .before .before .before .before .before .shared-slice-known .given in
     routes-eight _ _ _ _ _ _ (λ i. omega (arith, bytes i)) (c .before .before .local .ensures .0)
-
-same-length : tie.Need-same-length
-same-length c = search needs
 
 returns : tie.Need-returns
 returns c =
@@ -25,4 +19,4 @@ returns c =
 
 pub ruxtajma-local-routes-spec : {M : Type 1} → statement M
 ruxtajma-local-routes-spec =
-    tie.close (tie.spec local-requires routed-code-requires same-length returns)
+    tie.close (tie.spec (λ c κs. search needs) routed-code-requires (λ c. search needs) returns)

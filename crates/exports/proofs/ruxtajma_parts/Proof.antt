@@ -6,9 +6,6 @@ use Rattle.exports.proofs.Laws.{parts-eight}
 use Rattle.exports.proofs.ruxtajma_parts.Statement.{statement}
 use Rattle.exports.proofs.ruxtajma_parts.Tie as tie
 
-parts-requires : tie.Need-parts-requires
-parts-requires c κs = search needs
-
 parted-code-requires : tie.Need-parted-code-requires
 parted-code-requires c κs = parts-eight _ (c .parts .ensures)
 
@@ -16,4 +13,4 @@ returns : tie.Need-returns
 returns c = c .parted-code .ensures ∙ ap partedCode (c .before .parts .ensures)
 
 pub ruxtajma-parts-spec : {M : Type 1} → statement M
-ruxtajma-parts-spec = tie.close (tie.spec parts-requires parted-code-requires returns)
+ruxtajma-parts-spec = tie.close (tie.spec (λ c κs. search needs) parted-code-requires returns)

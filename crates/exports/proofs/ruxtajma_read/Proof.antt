@@ -7,43 +7,10 @@ use Rattle.exports.proofs.Laws.{is-default, is-table, is-held-refused, 
 use Rattle.exports.proofs.ruxtajma_read.Statement.{statement}
 use Rattle.exports.proofs.ruxtajma_read.Tie as tie
 
-read-requires : tie.Need-read-requires
-read-requires c κs = search needs
-
-enum-known-answer : tie.Need-enum-known-answer
-enum-known-answer c = search needs
-
-cast-coded : tie.Need-cast-coded
-cast-coded c = search needs
-
-cast-coded-2 : tie.Need-cast-coded-2
-cast-coded-2 c = search needs
-
-mul-coded : tie.Need-mul-coded
-mul-coded c = search needs
-
-add-coded : tie.Need-add-coded
-add-coded c = search needs
-
-coded-requires : tie.Need-coded-requires
-coded-requires c κs = search needs
-
-enum-known-answer-2 : tie.Need-enum-known-answer-2
-enum-known-answer-2 c = search needs
-
 place-values-requires : tie.Need-place-values-requires
 place-values-requires c κs =
     let bytes = c .before .before .before .before .shared-slice-known .given in
     table-stands _ _ _ _ _ _ (λ i. omega (arith, bytes i)) (c .before .before .before .read .ensures) (c .before .answer2 .given .1)
-
-coded-requires-2 : tie.Need-coded-requires-2
-coded-requires-2 c κs = search needs
-
-enum-known-answer-3 : tie.Need-enum-known-answer-3
-enum-known-answer-3 c = search needs
-
-refused-requires : tie.Need-refused-requires
-refused-requires c κs = search needs
 
 returns : tie.Need-returns
 returns c =
@@ -65,18 +32,10 @@ pub ruxtajma-read-spec : {M : Type 1} → statement M
 ruxtajma-read-spec =
     tie.close
     (tie.spec
-    read-requires
-    enum-known-answer
-    cast-coded
-    cast-coded-2
-    mul-coded
-    add-coded
-    coded-requires
-    enum-known-answer-2
+    (λ c κs. search needs) (λ c. search needs) (λ c. search needs) (λ c. search needs) (λ c. search needs)
+    (λ c. search needs) (λ c κs. search needs) (λ c. search needs)
     place-values-requires
-    coded-requires-2
-    enum-known-answer-3
-    refused-requires
+    (λ c κs. search needs) (λ c. search needs) (λ c κs. search needs)
     returns
     returns-2
     returns-3)

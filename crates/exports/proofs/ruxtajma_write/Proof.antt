@@ -7,26 +7,8 @@ use Rattle.exports.proofs.Laws.{write-eight}
 use Rattle.exports.proofs.ruxtajma_write.Statement.{statement}
 use Rattle.exports.proofs.ruxtajma_write.Tie as tie
 
-slice-aggregate-copy : tie.Need-slice-aggregate-copy
-slice-aggregate-copy c = search needs
-
-copy-requires : tie.Need-copy-requires
-copy-requires c κs = search needs
-
-slice-aggregate-copy-2 : tie.Need-slice-aggregate-copy-2
-slice-aggregate-copy-2 c = search needs
-
-copy-requires-2 : tie.Need-copy-requires-2
-copy-requires-2 c κs = search needs
-
-write-requires : tie.Need-write-requires
-write-requires c κs = search needs
-
 written-code-requires : tie.Need-written-code-requires
 written-code-requires c κs = write-eight _ _ (c .before .before .write .ensures .0)
-
-same-length : tie.Need-same-length
-same-length c = search needs
 
 returns : tie.Need-returns
 returns c =
@@ -42,11 +24,7 @@ pub ruxtajma-write-spec : {M : Type 1} → statement M
 ruxtajma-write-spec =
     tie.close
     (tie.spec
-    slice-aggregate-copy
-    copy-requires
-    slice-aggregate-copy-2
-    copy-requires-2
-    write-requires
+    (λ c. search needs) (λ c κs. search needs) (λ c. search needs) (λ c κs. search needs) (λ c κs. search needs)
     written-code-requires
-    same-length
+    (λ c. search needs)
     returns)

@@ -5,17 +5,11 @@ use Rattle.exports.proofs.Laws.{is-seen, no-is, yes-is, undeclared-is, 
 use Rattle.exports.proofs.seen_code.Statement.{statement}
 use Rattle.exports.proofs.seen_code.Tie as tie
 
-enum-known-answer : tie.Need-enum-known-answer
-enum-known-answer c = search needs
-
 mul-coded : tie.Need-mul-coded
 mul-coded c = let few = few-links _ (c .before .before .before .pre) (c .before .answer .given .1) in omega (arith, few)
 
 coded-requires : tie.Need-coded-requires
 coded-requires c κs = let few = few-links _ (c .before .before .before .pre) (c .before .answer .given .1) in omega (arith, few)
-
-enum-known-answer-2 : tie.Need-enum-known-answer-2
-enum-known-answer-2 c = search needs
 
 mul-coded-2 : tie.Need-mul-coded-2
 mul-coded-2 c = let few = few-links _ (c .before .before .before .pre) (c .before .answer2 .given .1) in omega (arith, few)
@@ -26,9 +20,6 @@ add-coded c = let few = few-links _ (c .before .before .before .pre) (c .before 
 coded-requires-2 : tie.Need-coded-requires-2
 coded-requires-2 c κs = let few = few-links _ (c .before .before .before .pre) (c .before .answer2 .given .1) in omega (arith, few)
 
-enum-known-answer-3 : tie.Need-enum-known-answer-3
-enum-known-answer-3 c = search needs
-
 mul-coded-3 : tie.Need-mul-coded-3
 mul-coded-3 c = let few = few-links _ (c .before .before .before .pre) (c .before .answer3 .given .1) in omega (arith, few)
 
@@ -37,12 +28,6 @@ add-coded-2 c = let few = few-links _ (c .before .before .before .pre) (c .befor
 
 coded-requires-3 : tie.Need-coded-requires-3
 coded-requires-3 c κs = let few = few-links _ (c .before .before .before .pre) (c .before .answer3 .given .1) in omega (arith, few)
-
-enum-known-answer-4 : tie.Need-enum-known-answer-4
-enum-known-answer-4 c = search needs
-
-refused-requires : tie.Need-refused-requires
-refused-requires c κs = search needs
 
 returns : tie.Need-returns
 returns c = is-seen _ (c .before .before .answer .given .1) (no-is _ (c .coded .ensures))
@@ -60,19 +45,18 @@ pub seen-code-spec : {M : Type 1} → statement M
 seen-code-spec =
     tie.close
     (tie.spec
-    enum-known-answer
+    (λ c. search needs)
     mul-coded
     coded-requires
-    enum-known-answer-2
+    (λ c. search needs)
     mul-coded-2
     add-coded
     coded-requires-2
-    enum-known-answer-3
+    (λ c. search needs)
     mul-coded-3
     add-coded-2
     coded-requires-3
-    enum-known-answer-4
-    refused-requires
+    (λ c. search needs) (λ c κs. search needs)
     returns
     returns-2
     returns-3

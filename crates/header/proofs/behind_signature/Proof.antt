@@ -19,14 +19,8 @@ returns-3 c = is-past _ (omega arith)
 slice-aggregate-sum : tie.Need-slice-aggregate-sum
 slice-aggregate-sum c = sym (length-take-le _ (c .before .before .before .before .before .args .t .now) (omega arith))
 
-sum-requires : tie.Need-sum-requires
-sum-requires c κs = search needs
-
 returns-4 : tie.Need-returns-4
 returns-4 c = is-missummed _ (omega arith) (omega arith) (omega arith) (c .before .sum .ensures) (c .before .before .before .before .before .before .before .pre .0) (c .if4 .taken)
-
-shared-slice-read-if5 : tie.Need-shared-slice-read-if5
-shared-slice-read-if5 c = search needs
 
 returns-5 : tie.Need-returns-5
 returns-5 c = is-unknown _ (omega arith) (omega arith) (omega arith) (c .before .before .before .sum .ensures) (c .before .before .before .before .before .before .before .before .before .pre .0) (omega arith) (c .if5 .taken)
@@ -42,8 +36,8 @@ behind-signature-spec =
     returns-2
     returns-3
     slice-aggregate-sum
-    sum-requires
+    (λ c κs. search needs)
     returns-4
-    shared-slice-read-if5
+    (λ c. search needs)
     returns-5
     returns-6)

@@ -9,23 +9,8 @@ use Rattle.header.proofs.refusal.Tie as tie
 returns : tie.Need-returns
 returns c = is-cut _ (c .if1 .taken)
 
-le16-requires : tie.Need-le16-requires
-le16-requires c κs = search needs
-
-cast-base : tie.Need-cast-base
-cast-base c = search needs
-
 slice-aggregate-same : tie.Need-slice-aggregate-same
 slice-aggregate-same c = signature-size (c .before .before .before .before .args .t .now) (c .before .before .if1 .left)
-
-slice-aggregate-same-2 : tie.Need-slice-aggregate-same-2
-slice-aggregate-same-2 c = search needs
-
-same-requires : tie.Need-same-requires
-same-requires c κs = search needs
-
-behind-signature-requires : tie.Need-behind-signature-requires
-behind-signature-requires c κs = search needs
 
 returns-2 : tie.Need-returns-2
 returns-2 c = c .behind-signature .ensures ∙ is-signed _ (omega arith) (sym (c .before .before .same .ensures) ∙ c .before .if2 .taken)
@@ -38,11 +23,8 @@ refusal-spec =
     tie.close
     (tie.spec
     returns
-    le16-requires
-    cast-base
+    (λ c κs. search needs) (λ c. search needs)
     slice-aggregate-same
-    slice-aggregate-same-2
-    same-requires
-    behind-signature-requires
+    (λ c. search needs) (λ c κs. search needs) (λ c κs. search needs)
     returns-2
     returns-3)

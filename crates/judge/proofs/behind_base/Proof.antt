@@ -8,17 +8,8 @@ use Rattle.judge.proofs.Verdict.{part-refused, more-refused, more-passe
 use Rattle.judge.proofs.behind_base.Statement.{statement}
 use Rattle.judge.proofs.behind_base.Tie as tie
 
-wrong-extended-requires : tie.Need-wrong-extended-requires
-wrong-extended-requires c κs = search needs
-
 returns : tie.Need-returns
 returns c = part-refused _ (c .before .before .before .pre) (c .before .wrong-extended .ensures) (c .if1 .taken)
-
-le16-requires : tie.Need-le16-requires
-le16-requires c κs = search needs
-
-cast-end : tie.Need-cast-end
-cast-end c = search needs
 
 add-end : tie.Need-add-end
 add-end c =
@@ -39,15 +30,6 @@ part-extended-end c =
     let h = header-passed _ (g .header) in
     let f = extended-fits _ (sym (c .before .before .wrong-extended .ensures) ∙ c .before .if1 .left) in
     omega (arith, g .mappings, h .inside, f)
-
-extended-requires : tie.Need-extended-requires
-extended-requires c κs = search needs
-
-enum-told : tie.Need-enum-told
-enum-told c = search needs
-
-enum-known-walked : tie.Need-enum-known-walked
-enum-known-walked c = search needs
 
 behind-walks-requires : tie.Need-behind-walks-requires
 behind-walks-requires c κs =
@@ -80,27 +62,21 @@ returns-2 c =
     let e = c .before .before .before .before .before .before .wrong-extended .ensures in
     more-refused _ g e (c .before .before .before .before .before .if1 .left) (g .mappings) (c .before .before .before .before .le16 .ensures) (c .before .before .extended .ensures) (c .enum-told .given .1)
 
-returns-3 : tie.Need-returns-3
-returns-3 c = search needs
-
 pub behind-base-spec : {M : Type 1} → statement M
 behind-base-spec =
     tie.close
     (tie.spec
-    wrong-extended-requires
+    (λ c κs. search needs)
     returns
-    le16-requires
-    cast-end
+    (λ c κs. search needs) (λ c. search needs)
     add-end
     sub-extended
     part-extended-start
     part-extended-end
-    extended-requires
-    enum-told
-    enum-known-walked
+    (λ c κs. search needs) (λ c. search needs) (λ c. search needs)
     add-t16
     add-t17
     add-t18
     behind-walks-requires
     returns-2
-    returns-3)
+    (λ c. search needs))

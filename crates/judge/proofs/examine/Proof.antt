@@ -6,23 +6,8 @@ use Rattle.judge.proofs.Verdict.{head-refused, walk-refused, walk-passe
 use Rattle.judge.proofs.examine.Statement.{statement}
 use Rattle.judge.proofs.examine.Tie as tie
 
-refusal-requires : tie.Need-refusal-requires
-refusal-requires c κs = search needs
-
 returns : tie.Need-returns
 returns c = head-refused _ (c .before .refusal .ensures) (c .if1 .taken)
-
-le16-requires : tie.Need-le16-requires
-le16-requires c κs = search needs
-
-cast-base : tie.Need-cast-base
-cast-base c = search needs
-
-le16-requires-2 : tie.Need-le16-requires-2
-le16-requires-2 c κs = search needs
-
-cast-count : tie.Need-cast-count
-cast-count c = search needs
 
 sub-base : tie.Need-sub-base
 sub-base c =
@@ -41,15 +26,6 @@ part-base-end c =
     let t = c .before .before .before .before .before .args .t .now in
     let h = header-passed t (omega arith) in
     omega (arith, h)
-
-base-requires : tie.Need-base-requires
-base-requires c κs = search needs
-
-enum-known-walked : tie.Need-enum-known-walked
-enum-known-walked c = search needs
-
-enum-known-walked-2 : tie.Need-enum-known-walked-2
-enum-known-walked-2 c = search needs
 
 behind-base-requires : tie.Need-behind-base-requires
 behind-base-requires c κs =
@@ -87,29 +63,21 @@ returns-2 c =
     let e = c .before .before .before .base .ensures in
     walk-refused t b k (omega arith) e (c .before .walked .given .1)
 
-returns-3 : tie.Need-returns-3
-returns-3 c = search needs
-
 pub examine-spec : {M : Type 1} → statement M
 examine-spec =
     tie.close
     (tie.spec
-    refusal-requires
+    (λ c κs. search needs)
     returns
-    le16-requires
-    cast-base
-    le16-requires-2
-    cast-count
+    (λ c κs. search needs) (λ c. search needs) (λ c κs. search needs) (λ c. search needs)
     sub-base
     part-base-start
     part-base-end
-    base-requires
-    enum-known-walked
-    enum-known-walked-2
+    (λ c κs. search needs) (λ c. search needs) (λ c. search needs)
     add-t18
     add-t19
     add-t20
     add-t21
     behind-base-requires
     returns-2
-    returns-3)
+    (λ c. search needs))

@@ -6,9 +6,6 @@ use Rattle.judge.proofs.Ways.{only255-is, by-local-apic, by-boot, by-pr
 use Rattle.judge.proofs.from_14.Statement.{statement}
 use Rattle.judge.proofs.from_14.Tie as tie
 
-le32-requires : tie.Need-le32-requires
-le32-requires c κs = search needs
-
 returns : tie.Need-returns
 returns c = by-local-apic (c .before .before .before .pre) (c .before .le32 .ensures) (c .if1 .taken)
 
@@ -21,20 +18,8 @@ part-entries-start c = omega arith
 part-entries-end : tie.Need-part-entries-end
 part-entries-end c = omega arith
 
-wrong-boot-requires : tie.Need-wrong-boot-requires
-wrong-boot-requires c κs = search needs
-
 returns-2 : tie.Need-returns-2
 returns-2 c = by-boot (c .before .before .before .before .before .before .pre) (c .before .before .before .before .le32 .ensures) (c .before .wrong-boot .ensures) (c .if2 .taken)
-
-empty-requires : tie.Need-empty-requires
-empty-requires c κs = search needs
-
-put-requires : tie.Need-put-requires
-put-requires c κs = search needs
-
-claim-requires : tie.Need-claim-requires
-claim-requires c κs = search needs
 
 returns-3 : tie.Need-returns-3
 returns-3 c =
@@ -65,16 +50,14 @@ pub from-14-spec : {M : Type 1} → statement M
 from-14-spec =
     tie.close
     (tie.spec
-    le32-requires
+    (λ c κs. search needs)
     returns
     sub-entries
     part-entries-start
     part-entries-end
-    wrong-boot-requires
+    (λ c κs. search needs)
     returns-2
-    empty-requires
-    put-requires
-    claim-requires
+    (λ c κs. search needs) (λ c κs. search needs) (λ c κs. search needs)
     returns-3
     from-15-requires
     returns-4)

@@ -15,9 +15,6 @@ part-list-start c = omega arith
 part-list-end : tie.Need-part-list-end
 part-list-end c = omega arith
 
-list-requires : tie.Need-list-requires
-list-requires c κs = search needs
-
 returns : tie.Need-returns
 returns c = by-bus (c .before .before .before .before .pre .0) (c .before .list .ensures) (c .if1 .taken)
 
@@ -36,7 +33,7 @@ from-15-spec =
     sub-list
     part-list-start
     part-list-end
-    list-requires
+    (λ c κs. search needs)
     returns
     from-16-requires
     returns-2)

@@ -15,16 +15,10 @@ part-entries-start c = omega arith
 part-entries-end : tie.Need-part-entries-end
 part-entries-end c = omega arith
 
-claim-requires : tie.Need-claim-requires
-claim-requires c κs = search needs
-
 returns : tie.Need-returns
 returns c =
     let h = c .before .before .before .before .pre in
     by-claim (h .0) (h .1 .2) (c .before .claim .ensures) (c .if1 .taken)
-
-misplaced-requires : tie.Need-misplaced-requires
-misplaced-requires c κs = search needs
 
 returns-2 : tie.Need-returns-2
 returns-2 c =
@@ -48,9 +42,9 @@ from-16-spec =
     sub-entries
     part-entries-start
     part-entries-end
-    claim-requires
+    (λ c κs. search needs)
     returns
-    misplaced-requires
+    (λ c κs. search needs)
     returns-2
     from-17-requires
     returns-3)

@@ -15,9 +15,6 @@ part-wrong-start c = omega arith
 part-wrong-end : tie.Need-part-wrong-end
 part-wrong-end c = omega arith
 
-wrong-requires : tie.Need-wrong-requires
-wrong-requires c κs = search needs
-
 returns : tie.Need-returns
 returns c =
     let h = c .before .before .before .before .pre in
@@ -32,16 +29,10 @@ part-wrong-start-2 c = omega arith
 part-wrong-end-2 : tie.Need-part-wrong-end-2
 part-wrong-end-2 c = omega arith
 
-wrong-requires-2 : tie.Need-wrong-requires-2
-wrong-requires-2 c κs = search needs
-
 returns-2 : tie.Need-returns-2
 returns-2 c =
     let h = c .before .before .before .before .before .before .before .pre in
     by-local (h .0) (h .1 .0) (h .1 .1) (h .1 .2) (c .before .before .before .before .wrong .ensures) (c .before .wrong2 .ensures) (c .if2 .taken)
-
-from-18-requires : tie.Need-from-18-requires
-from-18-requires c κs = search needs
 
 returns-3 : tie.Need-returns-3
 returns-3 c =
@@ -57,12 +48,12 @@ from-17-spec =
     sub-wrong
     part-wrong-start
     part-wrong-end
-    wrong-requires
+    (λ c κs. search needs)
     returns
     sub-wrong-2
     part-wrong-start-2
     part-wrong-end-2
-    wrong-requires-2
+    (λ c κs. search needs)
     returns-2
-    from-18-requires
+    (λ c κs. search needs)
     returns-3)

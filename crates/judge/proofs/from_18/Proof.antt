@@ -14,9 +14,6 @@ part-wrong-mappings-start c = omega arith
 part-wrong-mappings-end : tie.Need-part-wrong-mappings-end
 part-wrong-mappings-end c = omega arith
 
-wrong-mappings-requires : tie.Need-wrong-mappings-requires
-wrong-mappings-requires c κs = search needs
-
 returns : tie.Need-returns
 returns c =
     let h = c .before .before .before .before .pre in
@@ -30,9 +27,6 @@ part-tree-start c = omega arith
 
 part-tree-end : tie.Need-part-tree-end
 part-tree-end c = omega arith
-
-wrong-links-requires : tie.Need-wrong-links-requires
-wrong-links-requires c κs = search needs
 
 returns-2 : tie.Need-returns-2
 returns-2 c =
@@ -50,9 +44,6 @@ part-changes-start c = omega arith
 part-changes-end : tie.Need-part-changes-end
 part-changes-end c = omega arith
 
-wrong-modifiers-requires : tie.Need-wrong-modifiers-requires
-wrong-modifiers-requires c κs = search needs
-
 returns-3 : tie.Need-returns-3
 returns-3 c =
     let h = c .before .before .before .before .before .before .before .before .before .before .pre in
@@ -60,9 +51,6 @@ returns-3 c =
     let l = c .before .before .before .before .wrong-links .ensures in
     let o = c .before .wrong-modifiers .ensures in
     by-modifier (h .0) (h .1) m l o (c .if3 .taken)
-
-wrong-requires : tie.Need-wrong-requires
-wrong-requires c κs = search needs
 
 returns-4 : tie.Need-returns-4
 returns-4 c =
@@ -87,18 +75,18 @@ from-18-spec =
     sub-wrong-mappings
     part-wrong-mappings-start
     part-wrong-mappings-end
-    wrong-mappings-requires
+    (λ c κs. search needs)
     returns
     sub-tree
     part-tree-start
     part-tree-end
-    wrong-links-requires
+    (λ c κs. search needs)
     returns-2
     sub-changes
     part-changes-start
     part-changes-end
-    wrong-modifiers-requires
+    (λ c κs. search needs)
     returns-3
-    wrong-requires
+    (λ c κs. search needs)
     returns-4
     returns-5)

@@ -5,9 +5,6 @@ use Rattle.judge.proofs.Laws.{is-accepted, is-refused}
 use Rattle.judge.proofs.judge.Statement.{statement}
 use Rattle.judge.proofs.judge.Tie as tie
 
-refusal-requires : tie.Need-refusal-requires
-refusal-requires c κs = search needs
-
 returns : tie.Need-returns
 returns c = is-accepted _ (c .before .refusal .ensures) (omega arith)
 
@@ -15,4 +12,4 @@ returns-2 : tie.Need-returns-2
 returns-2 c = is-refused _ _ (c .before .refusal .ensures) (λ z. omega (arith, z))
 
 pub judge-spec : {M : Type 1} → statement M
-judge-spec = tie.close (tie.spec refusal-requires returns returns-2)
+judge-spec = tie.close (tie.spec (λ c κs. search needs) returns returns-2)

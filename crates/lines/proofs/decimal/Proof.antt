@@ -5,16 +5,10 @@ use Rattle.lines.proofs.Laws.{behind-stored, decimal-short}
 use Rattle.lines.proofs.decimal.Statement.{statement}
 use Rattle.lines.proofs.decimal.Tie as tie
 
-decimal-requires : tie.Need-decimal-requires
-decimal-requires c κs = search needs
-
 add-result : tie.Need-add-result
 add-result c =
     let args = c .before .before .before .before .before .args in
     omega (arith, decimal-short (args .x) (args .last))
-
-same-length : tie.Need-same-length
-same-length c = search needs
 
 returns : tie.Need-returns
 returns c =
@@ -24,4 +18,4 @@ returns c =
     (decimal-short (args .x) (args .last))
 
 pub decimal-spec : {M : Type 1} → statement M
-decimal-spec = tie.close (tie.spec decimal-requires add-result same-length returns)
+decimal-spec = tie.close (tie.spec (λ c κs. search needs) add-result (λ c. search needs) returns)

@@ -5,13 +5,10 @@ use Rattle.lines.proofs.Numbers.{high-is}
 use Rattle.lines.proofs.high.Statement.{statement}
 use Rattle.lines.proofs.high.Tie as tie
 
-cast-result : tie.Need-cast-result
-cast-result c = search needs
-
 returns : tie.Need-returns
 returns c =
     let args = c .args in
     high-is (args .e) (omega arith)
 
 pub high-spec : {M : Type 1} → statement M
-high-spec = tie.close (tie.spec cast-result returns)
+high-spec = tie.close (tie.spec (λ c. search needs) returns)

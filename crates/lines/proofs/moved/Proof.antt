@@ -11,14 +11,5 @@ slice-aggregate-copy c =
     let args = c .before .before .before .before .args in
     sym (length-take-le (args .n) (args .buffer .now) (omega arith))
 
-copy-requires : tie.Need-copy-requires
-copy-requires c κs = search needs
-
-same-length : tie.Need-same-length
-same-length c = search needs
-
-returns : tie.Need-returns
-returns c = search needs
-
 pub moved-spec : {M : Type 1} → statement M
-moved-spec = tie.close (tie.spec slice-aggregate-copy copy-requires same-length returns)
+moved-spec = tie.close (tie.spec slice-aggregate-copy (λ c κs. search needs) (λ c. search needs) (λ c. search needs))

@@ -5,16 +5,10 @@ use Rattle.lines.proofs.Laws.{behind, name-short}
 use Rattle.lines.proofs.name.Statement.{statement}
 use Rattle.lines.proofs.name.Tie as tie
 
-name-requires : tie.Need-name-requires
-name-requires c κs = search needs
-
 add-result : tie.Need-add-result
 add-result c =
     let args = c .before .before .before .before .before .before .args in
     omega (arith, name-short (args .s .now) (args .last) (omega arith))
-
-same-length : tie.Need-same-length
-same-length c = search needs
 
 returns : tie.Need-returns
 returns c =
@@ -24,4 +18,4 @@ returns c =
     (name-short (args .s .now) (args .last) (omega arith))
 
 pub name-spec : {M : Type 1} → statement M
-name-spec = tie.close (tie.spec name-requires add-result same-length returns)
+name-spec = tie.close (tie.spec (λ c κs. search needs) add-result (λ c. search needs) returns)

@@ -11,13 +11,10 @@ returns c =
     let args = c .before .args in
     has-none (args .at) 128 (length (args .out .now)) (omega arith)
 
-sub-result : tie.Need-sub-result
-sub-result c = search needs
-
 returns-2 : tie.Need-returns-2
 returns-2 c =
     let args = c .before .args in
     has-room (args .at) 128 (length (args .out .now)) (omega arith)
 
 pub roomy-spec : {M : Type 1} → statement M
-roomy-spec = tie.close (tie.spec returns sub-result returns-2)
+roomy-spec = tie.close (tie.spec returns (λ c. search needs) returns-2)

@@ -6,15 +6,6 @@ use Rattle.lines.proofs.Laws.{behind-stored}
 use Rattle.lines.proofs.word.Statement.{statement}
 use Rattle.lines.proofs.word.Tie as tie
 
-word-requires : tie.Need-word-requires
-word-requires c κs = search needs
-
-add-result : tie.Need-add-result
-add-result c = search needs
-
-same-length : tie.Need-same-length
-same-length c = search needs
-
 returns : tie.Need-returns
 returns c =
     let w = c .before .before in
@@ -23,4 +14,4 @@ returns c =
     (omega arith)
 
 pub word-spec : {M : Type 1} → statement M
-word-spec = tie.close (tie.spec word-requires add-result same-length returns)
+word-spec = tie.close (tie.spec (λ c κs. search needs) (λ c. search needs) (λ c. search needs) returns)

@@ -20,23 +20,11 @@ abbrev μ-loop : tie.MeasureT-loop
 loop-holds : tie.Need-loop-holds Inv-loop μ-loop
 loop-holds c = walking-first (c .before .args .t .now) (c .before .pre) refl
 
-after-requires : tie.Need-after-requires Inv-loop μ-loop
-after-requires c κs = search needs
-
 returns : tie.Need-returns Inv-loop μ-loop
 returns c = walking-done (c .before .before .loop .inv) (c .before .after .ensures) (c .if1 .taken)
 
-sub-line-width : tie.Need-sub-line-width Inv-loop μ-loop
-sub-line-width c = search needs
-
-part-line-width-start : tie.Need-part-line-width-start Inv-loop μ-loop
-part-line-width-start c = search needs
-
 part-line-width-end : tie.Need-part-line-width-end Inv-loop μ-loop
 part-line-width-end c = walking-ahead (c .before .before .loop .inv) (c .before .after .ensures) (c .if1 .left) .inside
-
-line-width-requires : tie.Need-line-width-requires Inv-loop μ-loop
-line-width-requires c κs = search needs
 
 add-sum : tie.Need-add-sum Inv-loop μ-loop
 add-sum c =
@@ -73,12 +61,11 @@ entries-width-spec =
     Inv-loop
     μ-loop
     loop-holds
-    after-requires
+    (λ c κs. search needs)
     returns
-    sub-line-width
-    part-line-width-start
+    (λ c. search needs) (λ c. search needs)
     part-line-width-end
-    line-width-requires
+    (λ c κs. search needs)
     add-sum
     loop-less
     loop-again)

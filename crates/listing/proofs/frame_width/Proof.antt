@@ -5,30 +5,6 @@ use borrow.Author.Needs.{needs}
 use Rattle.listing.proofs.frame_width.Statement.{statement}
 use Rattle.listing.proofs.frame_width.Tie as tie
 
-width-requires : tie.Need-width-requires
-width-requires c κs = search needs
-
-width-requires-2 : tie.Need-width-requires-2
-width-requires-2 c κs = search needs
-
-add-lengths : tie.Need-add-lengths
-add-lengths c = search needs
-
-width-requires-3 : tie.Need-width-requires-3
-width-requires-3 c κs = search needs
-
-add-result : tie.Need-add-result
-add-result c = search needs
-
-add-result-2 : tie.Need-add-result-2
-add-result-2 c = search needs
-
-width-requires-4 : tie.Need-width-requires-4
-width-requires-4 c κs = search needs
-
-add-result-3 : tie.Need-add-result-3
-add-result-3 c = search needs
-
 returns : tie.Need-returns
 returns c =
     let a = c .before .before .before .before .args in (
@@ -42,12 +18,6 @@ pub frame-width-spec : {M : Type 1} → statement M
 frame-width-spec =
     tie.close
     (tie.spec
-    width-requires
-    width-requires-2
-    add-lengths
-    width-requires-3
-    add-result
-    add-result-2
-    width-requires-4
-    add-result-3
+    (λ c κs. search needs) (λ c κs. search needs) (λ c. search needs) (λ c κs. search needs) (λ c. search needs)
+    (λ c. search needs) (λ c κs. search needs) (λ c. search needs)
     returns)

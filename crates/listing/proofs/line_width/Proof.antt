@@ -4,19 +4,10 @@ use Rattle.lines.proofs.EntryLines.{base-line, extended-line}
 use Rattle.listing.proofs.line_width.Statement.{statement}
 use Rattle.listing.proofs.line_width.Tie as tie
 
-byte-requires : tie.Need-byte-requires
-byte-requires c κs = search needs
-
-base-requires : tie.Need-base-requires
-base-requires c κs = search needs
-
 returns : tie.Need-returns
 returns c =
     let k = c .before .before in
     rw (base-line (k .before .before .args .e .now) (k .byte .ensures) (c .before .if1 .taken)) (c .base .ensures)
-
-extended-requires : tie.Need-extended-requires
-extended-requires c κs = search needs
 
 returns-2 : tie.Need-returns-2
 returns-2 c =
@@ -25,4 +16,4 @@ returns-2 c =
 
 pub line-width-spec : {M : Type 1} → statement M
 line-width-spec =
-    tie.close (tie.spec byte-requires base-requires returns extended-requires returns-2)
+    tie.close (tie.spec (λ c κs. search needs) (λ c κs. search needs) returns (λ c κs. search needs) returns-2)

@@ -19,21 +19,6 @@ found c =
     held-table (c .before .before .before .before .before .before .args .d .now) (f .0) (f .1 .0) (f .1 .1 .0) (f .1 .1 .1 .0) (f .1 .1 .1 .1 .0)
     (sym (c .before .before .before .read .ensures) ∙ m .1)
 
-read-requires : tie.Need-read-requires
-read-requires c κs = search needs
-
-enum-known-found : tie.Need-enum-known-found
-enum-known-found c = search needs
-
-enum-known-found-2 : tie.Need-enum-known-found-2
-enum-known-found-2 c = search needs
-
-list-default-requires : tie.Need-list-default-requires
-list-default-requires c κs = search needs
-
-enum-known-found-3 : tie.Need-enum-known-found-3
-enum-known-found-3 c = search needs
-
 sub-list-table : tie.Need-sub-list-table
 sub-list-table c =
     found c .1 .order
@@ -58,18 +43,12 @@ returns c =
     let h = held-number (a .d .now) (m .0 .0) (sym (c .before .before .before .read .ensures) ∙ m .1) in
     list-refused (a .d .now) (a .out .now) (m .0 .0) (h .0) (h .1)
 
-same-length : tie.Need-same-length
-same-length c = search needs
-
 returns-2 : tie.Need-returns-2
 returns-2 c =
     let m = c .before .before .before .before .before .found2 .given in
     let a = c .before .before .before .before .before .before .before .before .before .before .args in
     let h = held-default (a .d .now) (m .0 .0) (m .0 .1 .0) (sym (c .before .before .before .before .before .before .before .read .ensures) ∙ m .1) in
     list-written (a .d .now) (a .out .now) (h .0) (default-text (a .d .now) (h .1) (h .2) (h .3)) (c .before .before .list-default .ensures)
-
-same-length-2 : tie.Need-same-length-2
-same-length-2 c = search needs
 
 returns-3 : tie.Need-returns-3
 returns-3 c =
@@ -81,17 +60,13 @@ pub list-spec : {M : Type 1} → statement M
 list-spec =
     tie.close
     (tie.spec
-    read-requires
-    enum-known-found
-    enum-known-found-2
-    list-default-requires
-    enum-known-found-3
+    (λ c κs. search needs) (λ c. search needs) (λ c. search needs) (λ c κs. search needs) (λ c. search needs)
     sub-list-table
     part-list-table-start
     part-list-table-end
     list-table-requires
     returns
-    same-length
+    (λ c. search needs)
     returns-2
-    same-length-2
+    (λ c. search needs)
     returns-3)

@@ -5,29 +5,11 @@ use Rattle.listing.proofs.Laws.{too-long, it-fits}
 use Rattle.listing.proofs.list_default.Statement.{statement}
 use Rattle.listing.proofs.list_default.Tie as tie
 
-slice-relend-prefix-default : tie.Need-slice-relend-prefix-default
-slice-relend-prefix-default c = search needs
-
-slice-aggregate-default : tie.Need-slice-aggregate-default
-slice-aggregate-default c = search needs
-
-default-requires : tie.Need-default-requires
-default-requires c κs = search needs
-
-same-length : tie.Need-same-length
-same-length c = search needs
-
 returns : tie.Need-returns
 returns c =
     let p = c .before .before .before .default in
     let a = c .before .before .before .before .before .before .args in
     too-long (defaultLine (a .number) (a .imcr)) (a .out .now) (p .last .0) (p .ensures .1) (p .ensures .0) (c .if1 .taken)
-
-default-requires-2 : tie.Need-default-requires-2
-default-requires-2 c κs = search needs
-
-same-length-2 : tie.Need-same-length-2
-same-length-2 c = search needs
 
 returns-2 : tie.Need-returns-2
 returns-2 c =
@@ -41,11 +23,7 @@ pub list-default-spec : {M : Type 1} → statement M
 list-default-spec =
     tie.close
     (tie.spec
-    slice-relend-prefix-default
-    slice-aggregate-default
-    default-requires
-    same-length
+    (λ c. search needs) (λ c. search needs) (λ c κs. search needs) (λ c. search needs)
     returns
-    default-requires-2
-    same-length-2
+    (λ c κs. search needs) (λ c. search needs)
     returns-2)

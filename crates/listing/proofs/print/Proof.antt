@@ -5,18 +5,6 @@ use Rattle.listing.proofs.Laws.{print-bytes, print-room, print-refusal}
 use Rattle.listing.proofs.print.Statement.{statement}
 use Rattle.listing.proofs.print.Tie as tie
 
-list-requires : tie.Need-list-requires
-list-requires c κs = search needs
-
-enum-known-answer : tie.Need-enum-known-answer
-enum-known-answer c = search needs
-
-enum-known-answer-2 : tie.Need-enum-known-answer-2
-enum-known-answer-2 c = search needs
-
-same-length : tie.Need-same-length
-same-length c = search needs
-
 returns : tie.Need-returns
 returns c =
     let l = c .before .before .before .before .before .before .list in
@@ -24,20 +12,11 @@ returns c =
     let m = c .before .before .answer2 .given in
     print-room (a .d .now) (a .out .now) (sym (rw (c .if1 .taken) at (m .1)) ∙ l .ensures .0) (l .ensures .1)
 
-print-refused-requires : tie.Need-print-refused-requires
-print-refused-requires c κs = search needs
-
-same-length-2 : tie.Need-same-length-2
-same-length-2 c = search needs
-
 returns-2 : tie.Need-returns-2
 returns-2 c =
     let l = c .before .before .before .before .before .list in
     let a = c .before .before .before .before .before .before .before .before .before .args in
     print-bytes (a .d .now) (a .out .now) (sym (c .before .answer .given .1) ∙ l .ensures .0) (l .ensures .1)
-
-same-length-3 : tie.Need-same-length-3
-same-length-3 c = search needs
 
 returns-3 : tie.Need-returns-3
 returns-3 c =
@@ -50,13 +29,9 @@ pub print-spec : {M : Type 1} → statement M
 print-spec =
     tie.close
     (tie.spec
-    list-requires
-    enum-known-answer
-    enum-known-answer-2
-    same-length
+    (λ c κs. search needs) (λ c. search needs) (λ c. search needs) (λ c. search needs)
     returns
-    print-refused-requires
-    same-length-2
+    (λ c κs. search needs) (λ c. search needs)
     returns-2
-    same-length-3
+    (λ c. search needs)
     returns-3)

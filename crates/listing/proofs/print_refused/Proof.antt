@@ -5,29 +5,11 @@ use Rattle.listing.proofs.Laws.{too-long, it-fits}
 use Rattle.listing.proofs.print_refused.Statement.{statement}
 use Rattle.listing.proofs.print_refused.Tie as tie
 
-slice-relend-prefix-refused : tie.Need-slice-relend-prefix-refused
-slice-relend-prefix-refused c = search needs
-
-slice-aggregate-refused : tie.Need-slice-aggregate-refused
-slice-aggregate-refused c = search needs
-
-refused-requires : tie.Need-refused-requires
-refused-requires c κs = search needs
-
-same-length : tie.Need-same-length
-same-length c = search needs
-
 returns : tie.Need-returns
 returns c =
     let p = c .before .before .before .refused in
     let a = c .before .before .before .before .before .before .args in
     too-long (refusedLine (a .number)) (a .out .now) (p .last .0) (p .ensures .1) (p .ensures .0) (c .if1 .taken)
-
-refused-requires-2 : tie.Need-refused-requires-2
-refused-requires-2 c κs = search needs
-
-same-length-2 : tie.Need-same-length-2
-same-length-2 c = search needs
 
 returns-2 : tie.Need-returns-2
 returns-2 c =
@@ -41,11 +23,7 @@ pub print-refused-spec : {M : Type 1} → statement M
 print-refused-spec =
     tie.close
     (tie.spec
-    slice-relend-prefix-refused
-    slice-aggregate-refused
-    refused-requires
-    same-length
+    (λ c. search needs) (λ c. search needs) (λ c κs. search needs) (λ c. search needs)
     returns
-    refused-requires-2
-    same-length-2
+    (λ c κs. search needs) (λ c. search needs)
     returns-2)

@@ -25,9 +25,6 @@ loop-holds c =
     let a = c .before .before .args in
     walking-first (a .t .now) (c .before .before .pre .0) (record { place = sym (add-zero (a .at)); text = refl })
 
-after-requires : tie.Need-after-requires Inv-loop μ-loop
-after-requires c κs = search needs
-
 same-length : tie.Need-same-length Inv-loop μ-loop
 same-length c =
     let a = c .before .before .before .before .before .args in
@@ -37,19 +34,10 @@ same-length c =
 returns : tie.Need-returns Inv-loop μ-loop
 returns c = walking-done (c .before .before .loop .inv) (c .before .after .ensures) (c .if1 .taken)
 
-sub-line : tie.Need-sub-line Inv-loop μ-loop
-sub-line c = search needs
-
-part-line-start : tie.Need-part-line-start Inv-loop μ-loop
-part-line-start c = search needs
-
 part-line-end : tie.Need-part-line-end Inv-loop μ-loop
 part-line-end c =
     let i = c .before in
     walking-ahead (i .before .before .loop .inv) (i .before .after .ensures) (i .if1 .left) .inside
-
-line-requires : tie.Need-line-requires Inv-loop μ-loop
-line-requires c κs = search needs
 
 add-put : tie.Need-add-put Inv-loop μ-loop
 add-put c =
@@ -87,13 +75,12 @@ put-entries-spec =
     Inv-loop
     μ-loop
     loop-holds
-    after-requires
+    (λ c κs. search needs)
     same-length
     returns
-    sub-line
-    part-line-start
+    (λ c. search needs) (λ c. search needs)
     part-line-end
-    line-requires
+    (λ c κs. search needs)
     add-put
     loop-less
     loop-again)

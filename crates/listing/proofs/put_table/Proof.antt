@@ -18,21 +18,6 @@ front c =
       omega (arith, pointer-most (a .pointer) (a .imcr), c .before .before .before .before .pointer .ensures .0),
     )
 
-le16-requires : tie.Need-le16-requires
-le16-requires c κs = search needs
-
-le16-requires-2 : tie.Need-le16-requires-2
-le16-requires-2 c κs = search needs
-
-le16-requires-3 : tie.Need-le16-requires-3
-le16-requires-3 c κs = search needs
-
-pointer-requires : tie.Need-pointer-requires
-pointer-requires c κs = search needs
-
-table-requires : tie.Need-table-requires
-table-requires c κs = search needs
-
 add-b : tie.Need-add-b
 add-b c = omega (arith, front (c .before .before))
 
@@ -41,9 +26,6 @@ put-entries-requires c κs =
     let t = c .before .before .before in
     let s = t .before .before .before .before .before .before .before .before .before .before .before in
     (s .pre, omega (arith, front t))
-
-end-requires : tie.Need-end-requires
-end-requires c κs = search needs
 
 add-result : tie.Need-add-result
 add-result c =
@@ -58,9 +40,6 @@ add-result c =
       c .before .before .end .ensures .0,
       end-most,
     )
-
-same-length : tie.Need-same-length
-same-length c = search needs
 
 returns : tie.Need-returns
 returns c =
@@ -81,14 +60,10 @@ pub put-table-spec : {M : Type 1} → statement M
 put-table-spec =
     tie.close
     (tie.spec
-    le16-requires
-    le16-requires-2
-    le16-requires-3
-    pointer-requires
-    table-requires
+    (λ c κs. search needs) (λ c κs. search needs) (λ c κs. search needs) (λ c κs. search needs) (λ c κs. search needs)
     add-b
     put-entries-requires
-    end-requires
+    (λ c κs. search needs)
     add-result
-    same-length
+    (λ c. search needs)
     returns)

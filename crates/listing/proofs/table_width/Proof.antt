@@ -6,21 +6,6 @@ use Rattle.listing.proofs.Laws.{table-width}
 use Rattle.listing.proofs.table_width.Statement.{statement}
 use Rattle.listing.proofs.table_width.Tie as tie
 
-le16-requires : tie.Need-le16-requires
-le16-requires c κs = search needs
-
-le16-requires-2 : tie.Need-le16-requires-2
-le16-requires-2 c κs = search needs
-
-le16-requires-3 : tie.Need-le16-requires-3
-le16-requires-3 c κs = search needs
-
-frame-width-requires : tie.Need-frame-width-requires
-frame-width-requires c κs = search needs
-
-entries-width-requires : tie.Need-entries-width-requires
-entries-width-requires c κs = search needs
-
 add-result : tie.Need-add-result
 add-result c =
     let s = c .before .before .before .before .before .before in
@@ -37,10 +22,6 @@ pub table-width-spec : {M : Type 1} → statement M
 table-width-spec =
     tie.close
     (tie.spec
-    le16-requires
-    le16-requires-2
-    le16-requires-3
-    frame-width-requires
-    entries-width-requires
+    (λ c κs. search needs) (λ c κs. search needs) (λ c κs. search needs) (λ c κs. search needs) (λ c κs. search needs)
     add-result
     returns)

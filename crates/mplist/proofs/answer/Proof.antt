@@ -5,26 +5,11 @@ use Rattle.mplist.proofs.Laws.{all-written, never-refused}
 use Rattle.mplist.proofs.answer.Statement.{statement}
 use Rattle.mplist.proofs.answer.Tie as tie
 
-print-requires : tie.Need-print-requires
-print-requires c κs = search needs
-
-enum-known-printed : tie.Need-enum-known-printed
-enum-known-printed c = search needs
-
-enum-told : tie.Need-enum-told
-enum-told c = search needs
-
-same-length : tie.Need-same-length
-same-length c = search needs
-
 returns : tie.Need-returns
 returns c =
     let a = c .before .before .before .before .before .before .before .before .before .args in
     let p = c .before .before .before .before .before .print in
     all-written (a .d .now) (a .room .now) (omega arith) (p .ensures .0) (p .last .1 .0) (p .ensures .1) (c .before .printed .given .1)
-
-same-length-2 : tie.Need-same-length-2
-same-length-2 c = search needs
 
 returns-2 : tie.Need-returns-2
 returns-2 c =
@@ -35,10 +20,7 @@ pub answer-spec : {M : Type 1} → statement M
 answer-spec =
     tie.close
     (tie.spec
-    print-requires
-    enum-known-printed
-    enum-told
-    same-length
+    (λ c κs. search needs) (λ c. search needs) (λ c. search needs) (λ c. search needs)
     returns
-    same-length-2
+    (λ c. search needs)
     returns-2)

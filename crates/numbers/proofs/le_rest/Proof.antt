@@ -19,9 +19,6 @@ loop-holds : tie.Need-loop-holds Inv-loop μ-loop
 unfolding le
 loop-holds c = (omega arith, rw sub-self (omega arith))
 
-sub-i : tie.Need-sub-i Inv-loop μ-loop
-sub-i c = search needs
-
 mul-r : tie.Need-mul-r Inv-loop μ-loop
 mul-r c =
     let a = c .before .before .before .args in
@@ -29,20 +26,8 @@ mul-r c =
     let b = c .before .before .shared-slice-known .given in
     omega (arith, le-within (a .n - i) 7 (a .s .now) (a .at + i) (omega arith) (λ j. b j .fits))
 
-add-wide : tie.Need-add-wide Inv-loop μ-loop
-add-wide c = search needs
-
-shared-slice-read-wide : tie.Need-shared-slice-read-wide Inv-loop μ-loop
-shared-slice-read-wide c = search needs
-
-wide-requires : tie.Need-wide-requires Inv-loop μ-loop
-wide-requires c κs = search needs
-
 add-r : tie.Need-add-r Inv-loop μ-loop
 add-r c = omega (arith, mul-r (c .before .before))
-
-loop-less : tie.Need-loop-less Inv-loop μ-loop
-loop-less c = search needs
 
 loop-again : tie.Need-loop-again Inv-loop μ-loop
 loop-again c =
@@ -66,12 +51,10 @@ le-rest-spec =
     Inv-loop
     μ-loop
     loop-holds
-    sub-i
+    (λ c. search needs)
     mul-r
-    add-wide
-    shared-slice-read-wide
-    wide-requires
+    (λ c. search needs) (λ c. search needs) (λ c κs. search needs)
     add-r
-    loop-less
+    (λ c. search needs)
     loop-again
     returns)

@@ -16,40 +16,16 @@ Inv-loop out₀ at x k i₀ rest₀ more₀ out i rest more =
 abbrev μ-loop : tie.MeasureT-loop
 μ-loop out₀ at x k i₀ rest₀ more₀ out i rest more = more
 
-loop-holds : tie.Need-loop-holds Inv-loop μ-loop
-loop-holds c = search needs
-
-same-length : tie.Need-same-length Inv-loop μ-loop
-same-length c = search needs
-
 returns : tie.Need-returns Inv-loop μ-loop
 unfolding bytes
 returns c =
     let l = c .before .before .loop in
     rw (c .if1 .taken) at (l .inv .0)
 
-cast-out : tie.Need-cast-out Inv-loop μ-loop
-cast-out c = search needs
-
-slice-write-out : tie.Need-slice-write-out Inv-loop μ-loop
-slice-write-out c = search needs
-
-sub-more : tie.Need-sub-more Inv-loop μ-loop
-sub-more c = search needs
-
-add-i : tie.Need-add-i Inv-loop μ-loop
-add-i c = search needs
-
-loop-less : tie.Need-loop-less Inv-loop μ-loop
-loop-less c = search needs
-
 loop-again : tie.Need-loop-again Inv-loop μ-loop
 loop-again c =
     let l = c .before .before .loop in
     (sym (bytes-next (l .out) (l .i) (l .more) (l .rest) (c .if1 .left)) ∙ l .inv .0, simp length-set (l .inv .1))
-
-same-length-2 : tie.Need-same-length-2 Inv-loop μ-loop
-same-length-2 c = search needs
 
 returns-2 : tie.Need-returns-2 Inv-loop μ-loop
 returns-2 c =
@@ -62,14 +38,9 @@ put-any-spec =
     (tie.spec
     Inv-loop
     μ-loop
-    loop-holds
-    same-length
+    (λ c. search needs) (λ c. search needs)
     returns
-    cast-out
-    slice-write-out
-    sub-more
-    add-i
-    loop-less
+    (λ c. search needs) (λ c. search needs) (λ c. search needs) (λ c. search needs) (λ c. search needs)
     loop-again
-    same-length-2
+    (λ c. search needs)
     returns-2)

@@ -16,46 +16,16 @@ Inv-loop up₀ bus links place₀ left₀ up place left =
 abbrev μ-loop : tie.MeasureT-loop
 μ-loop up₀ bus links place₀ left₀ up place left = left
 
-wide-requires : tie.Need-wide-requires Inv-loop μ-loop
-wide-requires c κs = search needs
-
-cast-place : tie.Need-cast-place Inv-loop μ-loop
-cast-place c = search needs
-
 loop-holds : tie.Need-loop-holds Inv-loop μ-loop
 loop-holds c = (rw (c .wide .ensures .0) refl, c .wide .ensures .1, c .before .before .pre)
-
-mul-link : tie.Need-mul-link Inv-loop μ-loop
-mul-link c = search needs
-
-slice-read-link : tie.Need-slice-read-link Inv-loop μ-loop
-slice-read-link c = search needs
-
-same-length : tie.Need-same-length Inv-loop μ-loop
-same-length c = search needs
 
 returns : tie.Need-returns Inv-loop μ-loop
 returns c =
     let l = c .before .before .before .loop in
     sym (cleared-stop (l .up) (l .place) (l .left) (l .left - 1) (omega arith) (c .if1 .taken)) ∙ l .inv .0
 
-mul-up : tie.Need-mul-up Inv-loop μ-loop
-mul-up c = search needs
-
-slice-write-up : tie.Need-slice-write-up Inv-loop μ-loop
-slice-write-up c = search needs
-
-sub-place : tie.Need-sub-place Inv-loop μ-loop
-sub-place c = search needs
-
 cast-place-2 : tie.Need-cast-place-2 Inv-loop μ-loop
 cast-place-2 c = let l = c .before .before .before .loop in omega (arith, l .inv .2 .1 (l .place))
-
-sub-left : tie.Need-sub-left Inv-loop μ-loop
-sub-left c = search needs
-
-loop-less : tie.Need-loop-less Inv-loop μ-loop
-loop-less c = search needs
 
 loop-again : tie.Need-loop-again Inv-loop μ-loop
 loop-again c =
@@ -64,9 +34,6 @@ loop-again c =
     let small = l .inv .2 .1 (l .place) in
     let next = cleared-next (l .up) (l .place) (l .left) (l .left - 1) (omega arith) (p - 1) (omega arith) in
     (sym next ∙ l .inv .0, omega (arith, small), array-set (l .up) (l .place) 0 (l .inv .2) (l .inv .1) (omega arith))
-
-same-length-2 : tie.Need-same-length-2 Inv-loop μ-loop
-same-length-2 c = search needs
 
 returns-2 : tie.Need-returns-2 Inv-loop μ-loop
 returns-2 c =
@@ -79,19 +46,13 @@ clear-spec =
     (tie.spec
     Inv-loop
     μ-loop
-    wide-requires
-    cast-place
+    (λ c κs. search needs) (λ c. search needs)
     loop-holds
-    mul-link
-    slice-read-link
-    same-length
+    (λ c. search needs) (λ c. search needs) (λ c. search needs)
     returns
-    mul-up
-    slice-write-up
-    sub-place
+    (λ c. search needs) (λ c. search needs) (λ c. search needs)
     cast-place-2
-    sub-left
-    loop-less
+    (λ c. search needs) (λ c. search needs)
     loop-again
-    same-length-2
+    (λ c. search needs)
     returns-2)

@@ -21,21 +21,6 @@ abbrev μ-loop : tie.MeasureT-loop
 loop-holds : tie.Need-loop-holds Inv-loop μ-loop
 loop-holds c = (refl, omega arith, c .before .before .pre)
 
-sub-loop : tie.Need-sub-loop Inv-loop μ-loop
-sub-loop c = search needs
-
-add-goes-on : tie.Need-add-goes-on Inv-loop μ-loop
-add-goes-on c = search needs
-
-shared-slice-read-goes-on : tie.Need-shared-slice-read-goes-on Inv-loop μ-loop
-shared-slice-read-goes-on c = search needs
-
-goes-on-requires : tie.Need-goes-on-requires Inv-loop μ-loop
-goes-on-requires c κs = search needs
-
-same-length : tie.Need-same-length Inv-loop μ-loop
-same-length c = search needs
-
 returns : tie.Need-returns Inv-loop μ-loop
 returns c =
     let l = c .before .before .before .before .before .loop in
@@ -43,21 +28,6 @@ returns c =
     let on = sym (c .before .goes-on .ensures) ∙ c .if1 .taken in
     let b = getD (a .s .now) (l .at + 2) 0 in
     sym (endless-stop (l .up) (a .s .now) (l .at) (omega arith) (omega arith) b refl (a .links) on) ∙ l .inv .0
-
-add-clear : tie.Need-add-clear Inv-loop μ-loop
-add-clear c = search needs
-
-shared-slice-read-clear : tie.Need-shared-slice-read-clear Inv-loop μ-loop
-shared-slice-read-clear c = search needs
-
-clear-requires : tie.Need-clear-requires Inv-loop μ-loop
-clear-requires c κs = search needs
-
-add-at : tie.Need-add-at Inv-loop μ-loop
-add-at c = search needs
-
-loop-less : tie.Need-loop-less Inv-loop μ-loop
-loop-less c = search needs
 
 loop-again : tie.Need-loop-again Inv-loop μ-loop
 loop-again c =
@@ -73,9 +43,6 @@ loop-again c =
       rw e (array-cleared (a .links) (l .up) b (l .inv .2) (omega (arith, small))),
     )
 
-same-length-2 : tie.Need-same-length-2 Inv-loop μ-loop
-same-length-2 c = search needs
-
 returns-2 : tie.Need-returns-2 Inv-loop μ-loop
 returns-2 c =
     let l = c .before .loop in
@@ -89,17 +56,9 @@ endless-spec =
     Inv-loop
     μ-loop
     loop-holds
-    sub-loop
-    add-goes-on
-    shared-slice-read-goes-on
-    goes-on-requires
-    same-length
+    (λ c. search needs) (λ c. search needs) (λ c. search needs) (λ c κs. search needs) (λ c. search needs)
     returns
-    add-clear
-    shared-slice-read-clear
-    clear-requires
-    add-at
-    loop-less
+    (λ c. search needs) (λ c. search needs) (λ c κs. search needs) (λ c. search needs) (λ c. search needs)
     loop-again
-    same-length-2
+    (λ c. search needs)
     returns-2)

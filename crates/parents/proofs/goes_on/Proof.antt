@@ -16,20 +16,8 @@ Inv-loop up bus links place₀ left₀ place left = (goesOn left up place ≡ go
 abbrev μ-loop : tie.MeasureT-loop
 μ-loop up bus links place₀ left₀ place left = left
 
-wide-requires : tie.Need-wide-requires Inv-loop μ-loop
-wide-requires c κs = search needs
-
-cast-place : tie.Need-cast-place Inv-loop μ-loop
-cast-place c = search needs
-
 loop-holds : tie.Need-loop-holds Inv-loop μ-loop
 loop-holds c = (rw (c .wide .ensures .0) refl, c .wide .ensures .1)
-
-mul-link : tie.Need-mul-link Inv-loop μ-loop
-mul-link c = search needs
-
-shared-slice-read-link : tie.Need-shared-slice-read-link Inv-loop μ-loop
-shared-slice-read-link c = search needs
 
 returns : tie.Need-returns Inv-loop μ-loop
 returns c =
@@ -37,17 +25,8 @@ returns c =
     let up = c .before .before .before .before .before .before .args .up .now in
     sym (goes-stop up (l .place) (l .left) (l .left - 1) (omega arith) (c .if1 .taken)) ∙ l .inv .0
 
-sub-place : tie.Need-sub-place Inv-loop μ-loop
-sub-place c = search needs
-
 cast-place-2 : tie.Need-cast-place-2 Inv-loop μ-loop
 cast-place-2 c = omega (arith, c .before .before .before .before .before .before .pre .1 (c .before .before .before .loop .place))
-
-sub-left : tie.Need-sub-left Inv-loop μ-loop
-sub-left c = search needs
-
-loop-less : tie.Need-loop-less Inv-loop μ-loop
-loop-less c = search needs
 
 loop-again : tie.Need-loop-again Inv-loop μ-loop
 loop-again c =
@@ -68,15 +47,12 @@ goes-on-spec =
     (tie.spec
     Inv-loop
     μ-loop
-    wide-requires
-    cast-place
+    (λ c κs. search needs) (λ c. search needs)
     loop-holds
-    mul-link
-    shared-slice-read-link
+    (λ c. search needs) (λ c. search needs)
     returns
-    sub-place
+    (λ c. search needs)
     cast-place-2
-    sub-left
-    loop-less
+    (λ c. search needs) (λ c. search needs)
     loop-again
     returns-2)

@@ -10,9 +10,6 @@ use Rattle.parents.proofs.wrong.Tie as tie
 returns : tie.Need-returns
 returns c = wrong-none (c .before .before .args .s .now) (c .if1 .taken)
 
-slice-aggregate-fill : tie.Need-slice-aggregate-fill
-slice-aggregate-fill c = search needs
-
 fill-requires : tie.Need-fill-requires
 fill-requires c κs = blank-array
 
@@ -22,15 +19,6 @@ returns-2 c =
     let bytes = c .before .before .before .before .before .shared-slice-known .given in
     let f = c .before .before .fill in
     wrong-twice s (λ i. omega (arith, bytes i)) (f .result) (f .ensures .0) (c .if2 .taken)
-
-slice-aggregate-endless : tie.Need-slice-aggregate-endless
-slice-aggregate-endless c = search needs
-
-add-endless : tie.Need-add-endless
-add-endless c = search needs
-
-endless-requires : tie.Need-endless-requires
-endless-requires c κs = search needs
 
 returns-3 : tie.Need-returns-3
 returns-3 c =
@@ -47,10 +35,8 @@ wrong-spec =
     tie.close
     (tie.spec
     returns
-    slice-aggregate-fill
+    (λ c. search needs)
     fill-requires
     returns-2
-    slice-aggregate-endless
-    add-endless
-    endless-requires
+    (λ c. search needs) (λ c. search needs) (λ c κs. search needs)
     returns-3)

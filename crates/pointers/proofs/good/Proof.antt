@@ -5,22 +5,13 @@ use Rattle.pointers.proofs.Laws.{is-unsigned, is-other-size, is-summed}
 use Rattle.pointers.proofs.good.Statement.{statement}
 use Rattle.pointers.proofs.good.Tie as tie
 
-le32-requires : tie.Need-le32-requires
-le32-requires c κs = search needs
-
 returns : tie.Need-returns
 returns c = is-unsigned _ (omega arith) (c .before .le32 .ensures) (c .if1 .taken)
-
-shared-slice-read-if2 : tie.Need-shared-slice-read-if2
-shared-slice-read-if2 c = search needs
 
 returns-2 : tie.Need-returns-2
 returns-2 c =
     is-other-size _ (omega arith) (c .before .before .before .le32 .ensures) (λ i. omega (arith, c .before .shared-slice-known2 .given i))
     (c .before .before .if1 .left) (c .if2 .taken)
-
-sum-requires : tie.Need-sum-requires
-sum-requires c κs = search needs
 
 returns-3 : tie.Need-returns-3
 returns-3 c =
@@ -30,4 +21,4 @@ returns-3 c =
 pub good-spec : {M : Type 1} → statement M
 good-spec =
     tie.close
-    (tie.spec le32-requires returns shared-slice-read-if2 returns-2 sum-requires returns-3)
+    (tie.spec (λ c κs. search needs) returns (λ c. search needs) returns-2 (λ c κs. search needs) returns-3)

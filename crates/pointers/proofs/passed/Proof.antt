@@ -16,20 +16,8 @@ abbrev μ-loop : tie.MeasureT-loop
 loop-holds : tie.Need-loop-holds Inv-loop μ-loop
 loop-holds c = seeks-start _
 
-sub-loop : tie.Need-sub-loop Inv-loop μ-loop
-sub-loop c = search needs
-
-any-signature-requires : tie.Need-any-signature-requires Inv-loop μ-loop
-any-signature-requires c κs = search needs
-
 returns : tie.Need-returns Inv-loop μ-loop
 returns c = c .before .before .before .loop .inv
-
-add-at : tie.Need-add-at Inv-loop μ-loop
-add-at c = search needs
-
-loop-less : tie.Need-loop-less Inv-loop μ-loop
-loop-less c = search needs
 
 loop-again : tie.Need-loop-again Inv-loop μ-loop
 loop-again c =
@@ -46,10 +34,8 @@ passed-spec =
     Inv-loop
     μ-loop
     loop-holds
-    sub-loop
-    any-signature-requires
+    (λ c. search needs) (λ c κs. search needs)
     returns
-    add-at
-    loop-less
+    (λ c. search needs) (λ c. search needs)
     loop-again
     returns-2)

@@ -13,40 +13,13 @@ Inv-loop s at₀ at = Seeks s at
 abbrev μ-loop : tie.MeasureT-loop
 μ-loop s at₀ at = length s - at
 
-passed-requires : tie.Need-passed-requires Inv-loop μ-loop
-passed-requires c κs = search needs
-
 loop-holds : tie.Need-loop-holds Inv-loop μ-loop
 loop-holds c = c .passed .ensures
-
-sub-loop : tie.Need-sub-loop Inv-loop μ-loop
-sub-loop c = search needs
-
-add-good : tie.Need-add-good Inv-loop μ-loop
-add-good c = search needs
-
-sub-good : tie.Need-sub-good Inv-loop μ-loop
-sub-good c = search needs
-
-part-good-start : tie.Need-part-good-start Inv-loop μ-loop
-part-good-start c = search needs
-
-part-good-end : tie.Need-part-good-end Inv-loop μ-loop
-part-good-end c = search needs
-
-good-requires : tie.Need-good-requires Inv-loop μ-loop
-good-requires c κs = search needs
 
 returns : tie.Need-returns Inv-loop μ-loop
 returns c =
     let l = c .before .before .before .before .loop in
     seeks-stop _ (l .at) (l .inv) (omega arith) (c .before .good2 .ensures) (c .if1 .taken)
-
-add-at : tie.Need-add-at Inv-loop μ-loop
-add-at c = search needs
-
-loop-less : tie.Need-loop-less Inv-loop μ-loop
-loop-less c = search needs
 
 loop-again : tie.Need-loop-again Inv-loop μ-loop
 loop-again c =
@@ -62,16 +35,11 @@ search-spec =
     (tie.spec
     Inv-loop
     μ-loop
-    passed-requires
+    (λ c κs. search needs)
     loop-holds
-    sub-loop
-    add-good
-    sub-good
-    part-good-start
-    part-good-end
-    good-requires
+    (λ c. search needs) (λ c. search needs) (λ c. search needs) (λ c. search needs) (λ c. search needs)
+    (λ c κs. search needs)
     returns
-    add-at
-    loop-less
+    (λ c. search needs) (λ c. search needs)
     loop-again
     returns-2)

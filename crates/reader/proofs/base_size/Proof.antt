@@ -5,12 +5,6 @@ use Rattle.reader.proofs.Laws.{base-size, base-whole, base-unknown}
 use Rattle.reader.proofs.base_size.Statement.{statement}
 use Rattle.reader.proofs.base_size.Tie as tie
 
-shared-slice-read-kind : tie.Need-shared-slice-read-kind
-shared-slice-read-kind c = search needs
-
-whole-requires : tie.Need-whole-requires
-whole-requires c κs = search needs
-
 returns : tie.Need-returns
 returns c =
     let a = c .before .before .before .before .args in
@@ -23,9 +17,6 @@ returns-2 c =
     let a = c .before .before .before .before .args in
     base-unknown (a .t .now) (a .place) (a .end) (c .before .before .before .before .pre .1) (c .if2 .taken)
 
-whole-requires-2 : tie.Need-whole-requires-2
-whole-requires-2 c κs = search needs
-
 returns-3 : tie.Need-returns-3
 returns-3 c =
     let a = c .before .before .before .before .before .args in
@@ -36,4 +27,4 @@ returns-3 c =
 pub base-size-spec : {M : Type 1} → statement M
 base-size-spec =
     tie.close
-    (tie.spec shared-slice-read-kind whole-requires returns returns-2 whole-requires-2 returns-3)
+    (tie.spec (λ c. search needs) (λ c κs. search needs) returns returns-2 (λ c κs. search needs) returns-3)

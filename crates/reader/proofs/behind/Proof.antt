@@ -6,9 +6,6 @@ use Rattle.reader.proofs.Laws.{next-fits, next-is}
 use Rattle.reader.proofs.behind.Statement.{statement}
 use Rattle.reader.proofs.behind.Tie as tie
 
-size-requires : tie.Need-size-requires
-size-requires c κs = search needs
-
 add-result : tie.Need-add-result
 add-result c =
     let a = c .before .before .args in
@@ -19,4 +16,4 @@ returns : tie.Need-returns
 returns c = let a = c .before .before .args in next-is (a .t .now) (a .place) (c .size .ensures) refl
 
 pub behind-spec : {M : Type 1} → statement M
-behind-spec = tie.close (tie.spec size-requires add-result returns)
+behind-spec = tie.close (tie.spec (λ c κs. search needs) add-result returns)

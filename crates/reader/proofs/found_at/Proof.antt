@@ -3,9 +3,6 @@ use Rattle.reader.proofs.Laws.{found-none, found-some}
 use Rattle.reader.proofs.found_at.Statement.{statement}
 use Rattle.reader.proofs.found_at.Tie as tie
 
-size-requires : tie.Need-size-requires
-size-requires c κs = search needs
-
 returns : tie.Need-returns
 returns c =
     let a = c .before .before .before .args in
@@ -17,4 +14,4 @@ returns-2 c =
     found-some (a .t .now) (a .place) (c .before .size .result) (c .before .size .ensures) (c .if1 .left)
 
 pub found-at-spec : {M : Type 1} → statement M
-found-at-spec = tie.close (tie.spec size-requires returns returns-2)
+found-at-spec = tie.close (tie.spec (λ c κs. search needs) returns returns-2)

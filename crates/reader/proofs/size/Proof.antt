@@ -10,27 +10,12 @@ returns c = let a = c .before .before .args in size-short (a .t .now) (a .place)
 returns-2 : tie.Need-returns-2
 returns-2 c = let a = c .before .before .before .args in size-header (a .t .now) (a .place) (c .if2 .taken)
 
-base-end-requires : tie.Need-base-end-requires
-base-end-requires c κs = search needs
-
-base-size-requires : tie.Need-base-size-requires
-base-size-requires c κs = search needs
-
 returns-3 : tie.Need-returns-3
 returns-3 c =
     let k = c .before .before in
     let a = k .before .before .before .before .args in
     size-base (a .t .now) (a .place) (k .before .before .if1 .left) (k .before .if2 .left) (k .base-end .ensures)
     (c .before .if3 .taken) (c .base-size .ensures)
-
-extended-end-requires : tie.Need-extended-end-requires
-extended-end-requires c κs = search needs
-
-extended-step-requires : tie.Need-extended-step-requires
-extended-step-requires c κs = search needs
-
-whole-requires : tie.Need-whole-requires
-whole-requires c κs = search needs
 
 returns-4 : tie.Need-returns-4
 returns-4 c =
@@ -55,11 +40,8 @@ size-spec =
     (tie.spec
     returns
     returns-2
-    base-end-requires
-    base-size-requires
+    (λ c κs. search needs) (λ c κs. search needs)
     returns-3
-    extended-end-requires
-    extended-step-requires
-    whole-requires
+    (λ c κs. search needs) (λ c κs. search needs) (λ c κs. search needs)
     returns-4
     returns-5)

@@ -4,9 +4,6 @@ use Rattle.reader.proofs.Laws.{whole-fits, whole-cut}
 use Rattle.reader.proofs.whole.Statement.{statement}
 use Rattle.reader.proofs.whole.Tie as tie
 
-sub-if1 : tie.Need-sub-if1
-sub-if1 c = search needs
-
 returns : tie.Need-returns
 returns c = whole-fits _ _ _ (omega arith) (c .if1 .taken)
 
@@ -14,4 +11,4 @@ returns-2 : tie.Need-returns-2
 returns-2 c = let a = c .before .args in whole-cut (a .place) (a .size) (a .end) (omega arith) (c .if1 .left)
 
 pub whole-spec : {M : Type 1} → statement M
-whole-spec = tie.close (tie.spec sub-if1 returns returns-2)
+whole-spec = tie.close (tie.spec (λ c. search needs) returns returns-2)

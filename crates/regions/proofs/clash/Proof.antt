@@ -4,18 +4,6 @@ use borrow.Author.Needs.{needs}
 use Rattle.regions.proofs.clash.Statement.{statement}
 use Rattle.regions.proofs.clash.Tie as tie
 
-wide-requires : tie.Need-wide-requires
-wide-requires c κs = search needs
-
-end-of-requires : tie.Need-end-of-requires
-end-of-requires c κs = search needs
-
-wide-requires-2 : tie.Need-wide-requires-2
-wide-requires-2 c κs = search needs
-
-end-of-requires-2 : tie.Need-end-of-requires-2
-end-of-requires-2 c κs = search needs
-
 returns : tie.Need-returns
 returns c =
     clash-is _ _ (c .before .before .before .before .end-of2 .ensures) _ _ _ _
@@ -25,4 +13,4 @@ returns c =
 
 pub clash-spec : {M : Type 1} → statement M
 clash-spec =
-    tie.close (tie.spec wide-requires end-of-requires wide-requires-2 end-of-requires-2 returns)
+    tie.close (tie.spec (λ c κs. search needs) (λ c κs. search needs) (λ c κs. search needs) (λ c κs. search needs) returns)

@@ -18,21 +18,12 @@ abbrev μ-loop : tie.MeasureT-loop
 loop-holds : tie.Need-loop-holds Inv-loop μ-loop
 loop-holds c = (refl, omega arith)
 
-clashes-at-requires : tie.Need-clashes-at-requires Inv-loop μ-loop
-clashes-at-requires c κs = search needs
-
 returns : tie.Need-returns Inv-loop μ-loop
 returns c =
     let a = c .before .before .before .before .args in
     let l = c .before .before .before .loop in
     let hit = sym (c .before .clashes-at .ensures) ∙ c .if1 .taken in
     clash-hit (a .rs) (a .count) (l .i) (l .inv .0) (omega arith) (omega arith) hit
-
-add-i : tie.Need-add-i Inv-loop μ-loop
-add-i c = search needs
-
-loop-less : tie.Need-loop-less Inv-loop μ-loop
-loop-less c = search needs
 
 loop-again : tie.Need-loop-again Inv-loop μ-loop
 loop-again c =
@@ -54,9 +45,8 @@ clashes-spec =
     Inv-loop
     μ-loop
     loop-holds
-    clashes-at-requires
+    (λ c κs. search needs)
     returns
-    add-i
-    loop-less
+    (λ c. search needs) (λ c. search needs)
     loop-again
     returns-2)

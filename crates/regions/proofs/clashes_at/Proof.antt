@@ -19,26 +19,8 @@ Inv-loop count i rs r j₀ j =
 abbrev μ-loop : tie.MeasureT-loop
 μ-loop count i rs r j₀ j = count - j
 
-mul-r : tie.Need-mul-r Inv-loop μ-loop
-mul-r c = search needs
-
-array-copy-out-r : tie.Need-array-copy-out-r Inv-loop μ-loop
-array-copy-out-r c = search needs
-
-add-j : tie.Need-add-j Inv-loop μ-loop
-add-j c = search needs
-
 loop-holds : tie.Need-loop-holds Inv-loop μ-loop
 loop-holds c = (refl, omega arith)
-
-mul-clash : tie.Need-mul-clash Inv-loop μ-loop
-mul-clash c = search needs
-
-array-copy-out-clash : tie.Need-array-copy-out-clash Inv-loop μ-loop
-array-copy-out-clash c = search needs
-
-clash-requires : tie.Need-clash-requires Inv-loop μ-loop
-clash-requires c κs = search needs
 
 returns : tie.Need-returns Inv-loop μ-loop
 returns c =
@@ -46,12 +28,6 @@ returns c =
     let l = c .before .before .before .before .loop in
     let hit = sym (c .before .clash .ensures) ∙ c .if1 .taken in
     any-hit _ (a .t1) (a .count) (l .j) (l .inv .0) blank (omega arith) (omega arith) hit
-
-add-j-2 : tie.Need-add-j-2 Inv-loop μ-loop
-add-j-2 c = search needs
-
-loop-less : tie.Need-loop-less Inv-loop μ-loop
-loop-less c = search needs
 
 loop-again : tie.Need-loop-again Inv-loop μ-loop
 loop-again c =
@@ -72,15 +48,10 @@ clashes-at-spec =
     (tie.spec
     Inv-loop
     μ-loop
-    mul-r
-    array-copy-out-r
-    add-j
+    (λ c. search needs) (λ c. search needs) (λ c. search needs)
     loop-holds
-    mul-clash
-    array-copy-out-clash
-    clash-requires
+    (λ c. search needs) (λ c. search needs) (λ c κs. search needs)
     returns
-    add-j-2
-    loop-less
+    (λ c. search needs) (λ c. search needs)
     loop-again
     returns-2)

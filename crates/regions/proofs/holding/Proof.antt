@@ -7,15 +7,6 @@ use borrow.Author.Needs.{needs}
 use Rattle.regions.proofs.holding.Statement.{statement}
 use Rattle.regions.proofs.holding.Tie as tie
 
-place-in-requires : tie.Need-place-in-requires
-place-in-requires c κs = search needs
-
-mul-result : tie.Need-mul-result
-mul-result c = search needs
-
-array-copy-out-result : tie.Need-array-copy-out-result
-array-copy-out-result c = search needs
-
 returns : tie.Need-returns
 returns c =
     let e = c .before .before .before in
@@ -29,4 +20,4 @@ returns-2 c =
     eight-past (e .args .address) (e .args .t1) (p .result) (e .good .0 .1 .0 .1) (p .ensures) (omega arith)
 
 pub holding-spec : {M : Type 1} → statement M
-holding-spec = tie.close (tie.spec place-in-requires mul-result array-copy-out-result returns returns-2)
+holding-spec = tie.close (tie.spec (λ c κs. search needs) (λ c. search needs) (λ c. search needs) returns returns-2)

@@ -12,9 +12,6 @@ returns c = contents-none _ (λ s. omega (arith, s .some))
 returns-2 : tie.Need-returns-2
 returns-2 c = contents-none _ (λ s. omega (arith, s .most))
 
-shared-slice-read-count : tie.Need-shared-slice-read-count
-shared-slice-read-count c = search needs
-
 cast-count : tie.Need-cast-count
 cast-count c = omega (arith, c .shared-slice-known2 .given 0)
 
@@ -61,7 +58,7 @@ read-spec =
     (tie.spec
     returns
     returns-2
-    shared-slice-read-count
+    (λ c. search needs)
     cast-count
     returns-3
     rows-requires

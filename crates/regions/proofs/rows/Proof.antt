@@ -12,53 +12,23 @@ Inv-loop d count all₀ at₀ end₀ i₀ all at end i = Read d count all at end
 abbrev μ-loop : tie.MeasureT-loop
 μ-loop d count all₀ at₀ end₀ i₀ all at end i = count - i
 
-mul-end : tie.Need-mul-end Inv-loop μ-loop
-mul-end c = search needs
-
-add-end : tie.Need-add-end Inv-loop μ-loop
-add-end c = search needs
-
 loop-holds : tie.Need-loop-holds Inv-loop μ-loop
 loop-holds c = read-start _ _ (c .before .pre .0) (omega arith)
 
 add-le32 : tie.Need-add-le32 Inv-loop μ-loop
 add-le32 c = omega (arith, c .before .loop .inv .place)
 
-le32-requires : tie.Need-le32-requires Inv-loop μ-loop
-le32-requires c κs = search needs
-
 add-byte : tie.Need-add-byte Inv-loop μ-loop
 add-byte c = omega (arith, c .before .before .loop .inv .place)
 
-byte-requires : tie.Need-byte-requires Inv-loop μ-loop
-byte-requires c κs = search needs
-
 add-le32-2 : tie.Need-add-le32-2 Inv-loop μ-loop
 add-le32-2 c = omega (arith, c .before .before .before .loop .inv .place)
-
-le32-requires-2 : tie.Need-le32-requires-2 Inv-loop μ-loop
-le32-requires-2 c κs = search needs
-
-mul-all : tie.Need-mul-all Inv-loop μ-loop
-mul-all c = search needs
-
-array-set-from-all : tie.Need-array-set-from-all Inv-loop μ-loop
-array-set-from-all c = search needs
-
-wide-requires : tie.Need-wide-requires Inv-loop μ-loop
-wide-requires c κs = search needs
 
 add-end-2 : tie.Need-add-end-2 Inv-loop μ-loop
 add-end-2 c = omega (arith, c .before .before .before .before .before .loop .inv .below)
 
 add-at : tie.Need-add-at Inv-loop μ-loop
 add-at c = omega (arith, c .before .before .before .before .before .loop .inv .place)
-
-add-i : tie.Need-add-i Inv-loop μ-loop
-add-i c = search needs
-
-loop-less : tie.Need-loop-less Inv-loop μ-loop
-loop-less c = search needs
 
 loop-again : tie.Need-loop-again Inv-loop μ-loop
 loop-again c =
@@ -76,21 +46,16 @@ rows-spec =
     (tie.spec
     Inv-loop
     μ-loop
-    mul-end
-    add-end
+    (λ c. search needs) (λ c. search needs)
     loop-holds
     add-le32
-    le32-requires
+    (λ c κs. search needs)
     add-byte
-    byte-requires
+    (λ c κs. search needs)
     add-le32-2
-    le32-requires-2
-    mul-all
-    array-set-from-all
-    wide-requires
+    (λ c κs. search needs) (λ c. search needs) (λ c. search needs) (λ c κs. search needs)
     add-end-2
     add-at
-    add-i
-    loop-less
+    (λ c. search needs) (λ c. search needs)
     loop-again
     returns)

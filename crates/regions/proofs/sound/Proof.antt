@@ -4,11 +4,8 @@ use borrow.Author.Needs.{needs}
 use Rattle.regions.proofs.sound.Statement.{statement}
 use Rattle.regions.proofs.sound.Tie as tie
 
-end-of-requires : tie.Need-end-of-requires
-end-of-requires c κs = search needs
-
 returns : tie.Need-returns
 returns c = sound-is _ _ (c .before .before .before .before .before .before .before .end-of .ensures)
 
 pub sound-spec : {M : Type 1} → statement M
-sound-spec = tie.close (tie.spec end-of-requires returns)
+sound-spec = tie.close (tie.spec (λ c κs. search needs) returns)

@@ -20,27 +20,12 @@ abbrev μ-loop : tie.MeasureT-loop
 loop-holds : tie.Need-loop-holds Inv-loop μ-loop
 loop-holds c = (refl, omega arith)
 
-mul-sound : tie.Need-mul-sound Inv-loop μ-loop
-mul-sound c = search needs
-
-array-copy-out-sound : tie.Need-array-copy-out-sound Inv-loop μ-loop
-array-copy-out-sound c = search needs
-
-sound-requires : tie.Need-sound-requires Inv-loop μ-loop
-sound-requires c κs = search needs
-
 returns : tie.Need-returns Inv-loop μ-loop
 returns c =
     let a = c .before .before .before .before .before .args in
     let l = c .before .before .before .before .loop in
     let hit = rw (c .before .sound .ensures) at (c .if1 .taken) in
     any-hit _ (a .t1) (a .count) (l .i) (l .inv .0) blank (omega arith) (omega arith) hit
-
-add-i : tie.Need-add-i Inv-loop μ-loop
-add-i c = search needs
-
-loop-less : tie.Need-loop-less Inv-loop μ-loop
-loop-less c = search needs
 
 loop-again : tie.Need-loop-again Inv-loop μ-loop
 loop-again c =
@@ -62,11 +47,8 @@ unsound-spec =
     Inv-loop
     μ-loop
     loop-holds
-    mul-sound
-    array-copy-out-sound
-    sound-requires
+    (λ c. search needs) (λ c. search needs) (λ c κs. search needs)
     returns
-    add-i
-    loop-less
+    (λ c. search needs) (λ c. search needs)
     loop-again
     returns-2)

@@ -21,17 +21,8 @@ read :
     take (c .gather .result .count - 0) (c .gather .last .0) ≡ enabledIn (a .size) (a .targets .now)
 read c = ids-read _ _ (most (c .before)) (c .gather .ensures .0) (c .gather .ensures .1)
 
-slice-aggregate-gather : tie.Need-slice-aggregate-gather
-slice-aggregate-gather c = search needs
-
 gather-requires : tie.Need-gather-requires
 gather-requires c κs = (c .before .before .before .before .pre .0, most c)
-
-sub-ids : tie.Need-sub-ids
-sub-ids c = search needs
-
-part-ids-start : tie.Need-part-ids-start
-part-ids-start c = search needs
 
 part-ids-end : tie.Need-part-ids-end
 part-ids-end c =
@@ -43,9 +34,6 @@ count-requires c κs =
     let g = c .before .before .before .before in
     let k = ids-known _ _ (most (g .before)) (g .gather .ensures .0) (g .gather .ensures .1) in
     (k .0, k .1, g .before .before .before .before .before .pre .2)
-
-mul-if1 : tie.Need-mul-if1
-mul-if1 c = search needs
 
 returns : tie.Need-returns
 returns c =
@@ -64,9 +52,6 @@ write-requires c κs =
           (c .before .before .count .ensures .0) (c .before .if1 .left),
     )
 
-same-length : tie.Need-same-length
-same-length c = search needs
-
 returns-2 : tie.Need-returns-2
 returns-2 c =
     let n = c .before .before .before .before .before in
@@ -79,14 +64,13 @@ pub answer-spec : {M : Type 1} → statement M
 answer-spec =
     tie.close
     (tie.spec
-    slice-aggregate-gather
+    (λ c. search needs)
     gather-requires
-    sub-ids
-    part-ids-start
+    (λ c. search needs) (λ c. search needs)
     part-ids-end
     count-requires
-    mul-if1
+    (λ c. search needs)
     returns
     write-requires
-    same-length
+    (λ c. search needs)
     returns-2)

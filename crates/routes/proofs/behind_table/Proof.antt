@@ -10,18 +10,6 @@ returns c =
     let a = s .args in
     wrong-type (a .t .now) (a .p) (s .pre .0) (s .pre .1) (a .local) (a .itype) (a .bus) (a .irq) (a .out .now) (c .if1 .taken)
 
-sub-is-listed : tie.Need-sub-is-listed
-sub-is-listed c = search needs
-
-part-is-listed-start : tie.Need-part-is-listed-start
-part-is-listed-start c = search needs
-
-part-is-listed-end : tie.Need-part-is-listed-end
-part-is-listed-end c = search needs
-
-is-listed-requires : tie.Need-is-listed-requires
-is-listed-requires c κs = search needs
-
 returns-2 : tie.Need-returns-2
 returns-2 c =
     let s = c .before .before .before .before .before .before in
@@ -31,9 +19,6 @@ returns-2 c =
 
 of-side-requires : tie.Need-of-side-requires
 of-side-requires c κs = c .before .before .before .before .before .before .before .pre
-
-same-length : tie.Need-same-length
-same-length c = search needs
 
 returns-3 : tie.Need-returns-3
 returns-3 c =
@@ -48,11 +33,8 @@ behind-table-spec =
     tie.close
     (tie.spec
     returns
-    sub-is-listed
-    part-is-listed-start
-    part-is-listed-end
-    is-listed-requires
+    (λ c. search needs) (λ c. search needs) (λ c. search needs) (λ c κs. search needs)
     returns-2
     of-side-requires
-    same-length
+    (λ c. search needs)
     returns-3)

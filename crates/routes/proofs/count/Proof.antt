@@ -18,18 +18,6 @@ abbrev μ-loop : tie.MeasureT-loop
 loop-holds : tie.Need-loop-holds Inv-loop μ-loop
 loop-holds c = (omega arith, omega arith, omega arith)
 
-sub-loop : tie.Need-sub-loop Inv-loop μ-loop
-sub-loop c = search needs
-
-asked-requires : tie.Need-asked-requires Inv-loop μ-loop
-asked-requires c κs = search needs
-
-add-names : tie.Need-add-names Inv-loop μ-loop
-add-names c = search needs
-
-shared-slice-read-names : tie.Need-shared-slice-read-names Inv-loop μ-loop
-shared-slice-read-names c = search needs
-
 names-requires : tie.Need-names-requires Inv-loop μ-loop
 names-requires c κs = c .before .before .before .before .before .before .before .pre .0
 
@@ -39,12 +27,6 @@ add-pairs c =
     let l = c .before .before .before .before .before .loop in
     let n = named-most (a .ids .now) (getD (a .s .now) (l .at + 6) 0) (omega arith) in
     omega (arith, n)
-
-add-at : tie.Need-add-at Inv-loop μ-loop
-add-at c = search needs
-
-loop-less : tie.Need-loop-less Inv-loop μ-loop
-loop-less c = search needs
 
 loop-again : tie.Need-loop-again Inv-loop μ-loop
 loop-again c =
@@ -65,13 +47,9 @@ count-spec =
     Inv-loop
     μ-loop
     loop-holds
-    sub-loop
-    asked-requires
-    add-names
-    shared-slice-read-names
+    (λ c. search needs) (λ c κs. search needs) (λ c. search needs) (λ c. search needs)
     names-requires
     add-pairs
-    add-at
-    loop-less
+    (λ c. search needs) (λ c. search needs)
     loop-again
     returns)

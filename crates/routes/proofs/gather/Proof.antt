@@ -15,45 +15,18 @@ Inv-loop ids₀ s size count₀ set₀ at₀ ids count set at = Gathers ids₀ s
 abbrev μ-loop : tie.MeasureT-loop
 μ-loop ids₀ s size count₀ set₀ at₀ ids count set at = length s - at
 
-empty-requires : tie.Need-empty-requires Inv-loop μ-loop
-empty-requires c κs = search needs
-
 loop-holds : tie.Need-loop-holds Inv-loop μ-loop
 loop-holds c = (omega arith, omega arith, rw (c .empty .ensures), refl, refl)
-
-sub-loop : tie.Need-sub-loop Inv-loop μ-loop
-sub-loop c = search needs
-
-add-if1 : tie.Need-add-if1 Inv-loop μ-loop
-add-if1 c = search needs
-
-shared-slice-read-if1 : tie.Need-shared-slice-read-if1 Inv-loop μ-loop
-shared-slice-read-if1 c = search needs
-
-add-id : tie.Need-add-id Inv-loop μ-loop
-add-id c = search needs
-
-shared-slice-read-id : tie.Need-shared-slice-read-id Inv-loop μ-loop
-shared-slice-read-id c = search needs
 
 slice-write-ids : tie.Need-slice-write-ids Inv-loop μ-loop
 slice-write-ids c =
     let more = gathers-room _ _ _ _ _ _ _ (c .before .before .before .before .loop .inv) (omega arith) (omega arith) (omega arith) in
     omega (arith, more)
 
-put-requires : tie.Need-put-requires Inv-loop μ-loop
-put-requires c κs = search needs
-
 add-count : tie.Need-add-count Inv-loop μ-loop
 add-count c =
     let more = gathers-room _ _ _ _ _ _ _ (c .before .before .before .before .before .loop .inv) (omega arith) (omega arith) (omega arith) in
     omega (arith, more)
-
-add-at : tie.Need-add-at Inv-loop μ-loop
-add-at c = search needs
-
-loop-less : tie.Need-loop-less Inv-loop μ-loop
-loop-less c = search needs
 
 loop-again : tie.Need-loop-again Inv-loop μ-loop
 loop-again c =
@@ -75,18 +48,13 @@ gather-spec =
     (tie.spec
     Inv-loop
     μ-loop
-    empty-requires
+    (λ c κs. search needs)
     loop-holds
-    sub-loop
-    add-if1
-    shared-slice-read-if1
-    add-id
-    shared-slice-read-id
+    (λ c. search needs) (λ c. search needs) (λ c. search needs) (λ c. search needs) (λ c. search needs)
     slice-write-ids
-    put-requires
+    (λ c κs. search needs)
     add-count
-    add-at
-    loop-less
+    (λ c. search needs) (λ c. search needs)
     loop-again
     same-length
     returns)

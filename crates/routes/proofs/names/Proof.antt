@@ -10,9 +10,6 @@ use Rattle.routes.proofs.names.Tie as tie
 returns : tie.Need-returns
 returns c = sym (ap length (named-all _ _ (c .if1 .taken)))
 
-contains-requires : tie.Need-contains-requires
-contains-requires c κs = search needs
-
 returns-2 : tie.Need-returns-2
 returns-2 c =
     let p = c .before .before .before .before .pre in
@@ -24,4 +21,4 @@ returns-3 c =
     sym (ap length (named-none _ _ (c .before .before .if1 .left) (omega arith) _ p (c .before .contains .ensures) (c .if2 .left)))
 
 pub names-spec : {M : Type 1} → statement M
-names-spec = tie.close (tie.spec returns contains-requires returns-2 returns-3)
+names-spec = tie.close (tie.spec returns (λ c κs. search needs) returns-2 returns-3)

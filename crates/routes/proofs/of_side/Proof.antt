@@ -4,31 +4,10 @@ use Rattle.routes.proofs.Answering.{io-ready, local-ready, io-gives, lo
 use Rattle.routes.proofs.of_side.Statement.{statement}
 use Rattle.routes.proofs.of_side.Tie as tie
 
-sub-answer : tie.Need-sub-answer
-sub-answer c = search needs
-
-part-answer-start : tie.Need-part-answer-start
-part-answer-start c = search needs
-
-part-answer-end : tie.Need-part-answer-end
-part-answer-end c = search needs
-
-sub-answer-2 : tie.Need-sub-answer-2
-sub-answer-2 c = search needs
-
-part-answer-start-2 : tie.Need-part-answer-start-2
-part-answer-start-2 c = search needs
-
-part-answer-end-2 : tie.Need-part-answer-end-2
-part-answer-end-2 c = search needs
-
 answer-requires : tie.Need-answer-requires
 answer-requires c κs =
     let s = c .before .before .before .before .before .before in
     local-ready (s .args .t .now) (s .args .p) (s .pre .0) (s .pre .1)
-
-same-length : tie.Need-same-length
-same-length c = search needs
 
 returns : tie.Need-returns
 returns c =
@@ -37,31 +16,10 @@ returns c =
     local-gives (a .t .now) (a .p) (s .pre .0) (s .pre .1) (a .local) (a .itype) (a .bus) (a .irq) (a .out .now)
     (c .before .before .before .before .before .before .if1 .taken) (c .before .before .answer .ensures)
 
-sub-answer-3 : tie.Need-sub-answer-3
-sub-answer-3 c = search needs
-
-part-answer-start-3 : tie.Need-part-answer-start-3
-part-answer-start-3 c = search needs
-
-part-answer-end-3 : tie.Need-part-answer-end-3
-part-answer-end-3 c = search needs
-
-sub-answer-4 : tie.Need-sub-answer-4
-sub-answer-4 c = search needs
-
-part-answer-start-4 : tie.Need-part-answer-start-4
-part-answer-start-4 c = search needs
-
-part-answer-end-4 : tie.Need-part-answer-end-4
-part-answer-end-4 c = search needs
-
 answer-requires-2 : tie.Need-answer-requires-2
 answer-requires-2 c κs =
     let s = c .before .before .before .before .before .before in
     io-ready (s .args .t .now) (s .args .p) (s .pre .0) (s .pre .1)
-
-same-length-2 : tie.Need-same-length-2
-same-length-2 c = search needs
 
 returns-2 : tie.Need-returns-2
 returns-2 c =
@@ -74,21 +32,13 @@ pub of-side-spec : {M : Type 1} → statement M
 of-side-spec =
     tie.close
     (tie.spec
-    sub-answer
-    part-answer-start
-    part-answer-end
-    sub-answer-2
-    part-answer-start-2
-    part-answer-end-2
+    (λ c. search needs) (λ c. search needs) (λ c. search needs) (λ c. search needs) (λ c. search needs)
+    (λ c. search needs)
     answer-requires
-    same-length
+    (λ c. search needs)
     returns
-    sub-answer-3
-    part-answer-start-3
-    part-answer-end-3
-    sub-answer-4
-    part-answer-start-4
-    part-answer-end-4
+    (λ c. search needs) (λ c. search needs) (λ c. search needs) (λ c. search needs) (λ c. search needs)
+    (λ c. search needs)
     answer-requires-2
-    same-length-2
+    (λ c. search needs)
     returns-2)

@@ -6,26 +6,17 @@ use Rattle.routes.proofs.Writing.{for-all, for-one, for-none}
 use Rattle.routes.proofs.put_named.Statement.{statement}
 use Rattle.routes.proofs.put_named.Tie as tie
 
-shared-slice-read-to : tie.Need-shared-slice-read-to
-shared-slice-read-to c = search needs
-
 put-all-requires : tie.Need-put-all-requires
 put-all-requires c κs =
     let s = c .before .before .before .before .before .before in
     let all = for-all (s .args .ids .now) (s .args .entry .now) (c .before .if1 .taken) in
     (omega arith, rw all at (s .pre .1))
 
-same-length : tie.Need-same-length
-same-length c = search needs
-
 returns : tie.Need-returns
 returns c =
     let s = c .before .before .before .before .before .before .before .before .before in
     let all = for-all (s .args .ids .now) (s .args .entry .now) (c .before .before .before .before .if1 .taken) in
     rw all (c .before .before .put-all .ensures)
-
-contains-requires : tie.Need-contains-requires
-contains-requires c κs = search needs
 
 put-pair-requires : tie.Need-put-pair-requires
 put-pair-requires c κs =
@@ -42,9 +33,6 @@ add-result c =
     let one = for-one (s .args .ids .now) (s .args .entry .now) (d .before .if1 .left) (omega (arith, d .before .before .shared-slice-known3 .given 6))
     _ (s .pre .0 .0) (d .contains .ensures) (c .before .before .before .before .if2 .taken) in
     omega (arith, one .1)
-
-same-length-2 : tie.Need-same-length-2
-same-length-2 c = search needs
 
 returns-2 : tie.Need-returns-2
 returns-2 c =
@@ -66,13 +54,13 @@ pub put-named-spec : {M : Type 1} → statement M
 put-named-spec =
     tie.close
     (tie.spec
-    shared-slice-read-to
+    (λ c. search needs)
     put-all-requires
-    same-length
+    (λ c. search needs)
     returns
-    contains-requires
+    (λ c κs. search needs)
     put-pair-requires
     add-result
-    same-length-2
+    (λ c. search needs)
     returns-2
     returns-3)

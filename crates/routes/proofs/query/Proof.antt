@@ -7,15 +7,6 @@ use Rattle.routes.proofs.Answering.{table-refused}
 use Rattle.routes.proofs.query.Statement.{statement}
 use Rattle.routes.proofs.query.Tie as tie
 
-examine-requires : tie.Need-examine-requires
-examine-requires c κs = search needs
-
-enum-known-found : tie.Need-enum-known-found
-enum-known-found c = search needs
-
-enum-known-found-2 : tie.Need-enum-known-found-2
-enum-known-found-2 c = search needs
-
 behind-table-requires : tie.Need-behind-table-requires
 behind-table-requires c κs =
     let e = c .before .before .before .before .examine .ensures in
@@ -30,9 +21,6 @@ returns c =
     table-refused (a .local) (a .t .now) (a .itype) (a .bus) (a .irq) (a .out .now)
     (c .before .before .before .examine .ensures) (c .before .found .given .1)
 
-same-length : tie.Need-same-length
-same-length c = search needs
-
 returns-2 : tie.Need-returns-2
 returns-2 c = c .before .before .behind-table .ensures
 
@@ -40,10 +28,8 @@ pub query-spec : {M : Type 1} → statement M
 query-spec =
     tie.close
     (tie.spec
-    examine-requires
-    enum-known-found
-    enum-known-found-2
+    (λ c κs. search needs) (λ c. search needs) (λ c. search needs)
     behind-table-requires
     returns
-    same-length
+    (λ c. search needs)
     returns-2)

@@ -21,24 +21,6 @@ abbrev μ-loop : tie.MeasureT-loop
 loop-holds : tie.Need-loop-holds Inv-loop μ-loop
 loop-holds c = (writes-first _ _ _, omega arith)
 
-sub-loop : tie.Need-sub-loop Inv-loop μ-loop
-sub-loop c = search needs
-
-asked-requires : tie.Need-asked-requires Inv-loop μ-loop
-asked-requires c κs = search needs
-
-add-put-named : tie.Need-add-put-named Inv-loop μ-loop
-add-put-named c = search needs
-
-sub-put-named : tie.Need-sub-put-named Inv-loop μ-loop
-sub-put-named c = search needs
-
-part-put-named-start : tie.Need-part-put-named-start Inv-loop μ-loop
-part-put-named-start c = search needs
-
-part-put-named-end : tie.Need-part-put-named-end Inv-loop μ-loop
-part-put-named-end c = search needs
-
 put-named-requires : tie.Need-put-named-requires Inv-loop μ-loop
 put-named-requires c κs =
     let f = c .before .before .before in
@@ -47,12 +29,6 @@ put-named-requires c κs =
     let a = e .args in
     let room = pairs-room (a .ids .now) (asked (a .itype) (a .bus) (a .irq)) (a .s .now) at (omega arith) (omega arith) (f .asked .ensures) (c .before .before .if1 .taken) in
     ((e .pre .0, omega (arith, length-part at (at + 8) (a .s .now) (omega arith))), omega (arith, room))
-
-add-at : tie.Need-add-at Inv-loop μ-loop
-add-at c = search needs
-
-loop-less : tie.Need-loop-less Inv-loop μ-loop
-loop-less c = search needs
 
 loop-again : tie.Need-loop-again Inv-loop μ-loop
 loop-again c =
@@ -80,15 +56,10 @@ write-spec =
     Inv-loop
     μ-loop
     loop-holds
-    sub-loop
-    asked-requires
-    add-put-named
-    sub-put-named
-    part-put-named-start
-    part-put-named-end
+    (λ c. search needs) (λ c κs. search needs) (λ c. search needs) (λ c. search needs) (λ c. search needs)
+    (λ c. search needs)
     put-named-requires
-    add-at
-    loop-less
+    (λ c. search needs) (λ c. search needs)
     loop-again
     same-length
     returns)

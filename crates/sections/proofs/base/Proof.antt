@@ -14,32 +14,8 @@ places c =
     run-ends _ _ _ _ _ _ (c .before .before .before .before .run .ensures) (c .before .before .before .run2 .ensures) (c .before .before .run3 .ensures)
     (c .before .run4 .ensures) (c .run5 .ensures)
 
-run-requires : tie.Need-run-requires
-run-requires c κs = search needs
-
-run-requires-2 : tie.Need-run-requires-2
-run-requires-2 c κs = search needs
-
-run-requires-3 : tie.Need-run-requires-3
-run-requires-3 c κs = search needs
-
-run-requires-4 : tie.Need-run-requires-4
-run-requires-4 c κs = search needs
-
-run-requires-5 : tie.Need-run-requires-5
-run-requires-5 c κs = search needs
-
-fault-requires : tie.Need-fault-requires
-fault-requires c κs = search needs
-
 returns : tie.Need-returns
 returns c = base-faulty _ _ _ _ _ _ _ (places (c .before .before)) _ (c .before .if1 .taken) (c .fault .ensures)
-
-sub-if2 : tie.Need-sub-if2
-sub-if2 c = search needs
-
-add-if2 : tie.Need-add-if2
-add-if2 c = search needs
 
 returns-2 : tie.Need-returns-2
 returns-2 c = base-miscounted _ _ _ _ _ _ _ (places (c .before .before)) (omega arith) (c .if2 .taken)
@@ -51,14 +27,9 @@ pub base-spec : {M : Type 1} → statement M
 base-spec =
     tie.close
     (tie.spec
-    run-requires
-    run-requires-2
-    run-requires-3
-    run-requires-4
-    run-requires-5
-    fault-requires
+    (λ c κs. search needs) (λ c κs. search needs) (λ c κs. search needs) (λ c κs. search needs) (λ c κs. search needs)
+    (λ c κs. search needs)
     returns
-    sub-if2
-    add-if2
+    (λ c. search needs) (λ c. search needs)
     returns-2
     returns-3)

@@ -4,18 +4,6 @@ use borrow.Author.Needs.{needs}
 use Rattle.sections.proofs.extended.Statement.{statement}
 use Rattle.sections.proofs.extended.Tie as tie
 
-run-of-requires : tie.Need-run-of-requires
-run-of-requires c κs = search needs
-
-run-of-requires-2 : tie.Need-run-of-requires-2
-run-of-requires-2 c κs = search needs
-
-run-of-requires-3 : tie.Need-run-of-requires-3
-run-of-requires-3 c κs = search needs
-
-others-requires : tie.Need-others-requires
-others-requires c κs = search needs
-
 returns : tie.Need-returns
 returns c =
     extended-faulty _ _ _ _
@@ -32,9 +20,6 @@ pub extended-spec : {M : Type 1} → statement M
 extended-spec =
     tie.close
     (tie.spec
-    run-of-requires
-    run-of-requires-2
-    run-of-requires-3
-    others-requires
+    (λ c κs. search needs) (λ c κs. search needs) (λ c κs. search needs) (λ c κs. search needs)
     returns
     returns-2)

@@ -5,19 +5,10 @@ use borrow.Author.Needs.{needs}
 use Rattle.sections.proofs.fault.Statement.{statement}
 use Rattle.sections.proofs.fault.Tie as tie
 
-shared-slice-read-kind : tie.Need-shared-slice-read-kind
-shared-slice-read-kind c = search needs
-
 returns : tie.Need-returns
 returns c =
     let a = c .before .before .before .args in
     fault-type (a .s .now) (a .at) (omega arith) (omega arith)
-
-sub-if2 : tie.Need-sub-if2
-sub-if2 c = search needs
-
-size-of-requires : tie.Need-size-of-requires
-size-of-requires c κs = search needs
 
 returns-2 : tie.Need-returns-2
 returns-2 c =
@@ -32,4 +23,4 @@ returns-3 c =
 pub fault-spec : {M : Type 1} → statement M
 fault-spec =
     tie.close
-    (tie.spec shared-slice-read-kind returns sub-if2 size-of-requires returns-2 returns-3)
+    (tie.spec (λ c. search needs) returns (λ c. search needs) (λ c κs. search needs) returns-2 returns-3)

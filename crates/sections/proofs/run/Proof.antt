@@ -17,9 +17,6 @@ Inv-loop s at kind size place₀ place = Upto baseOwn baseEntryLength s kind at 
 abbrev μ-loop : tie.MeasureT-loop
 μ-loop s at kind size place₀ place = length s - place
 
-size-of-requires : tie.Need-size-of-requires Inv-loop μ-loop
-size-of-requires c κs = search needs
-
 loop-holds : tie.Need-loop-holds Inv-loop μ-loop
 loop-holds c = upto-start _ _ _ _ _ (omega arith)
 
@@ -57,7 +54,7 @@ run-spec =
     (tie.spec
     Inv-loop
     μ-loop
-    size-of-requires
+    (λ c κs. search needs)
     loop-holds
     sub-loop
     shared-slice-read-if1

@@ -17,12 +17,6 @@ Inv-loop s at kind size place₀ place = Upto extendedOwn extendedEntryLength s 
 abbrev μ-loop : tie.MeasureT-loop
 μ-loop s at kind size place₀ place = length s - place
 
-sub-size-of : tie.Need-sub-size-of Inv-loop μ-loop
-sub-size-of c = search needs
-
-size-of-requires : tie.Need-size-of-requires Inv-loop μ-loop
-size-of-requires c κs = search needs
-
 loop-holds : tie.Need-loop-holds Inv-loop μ-loop
 loop-holds c = upto-start _ _ _ _ _ (omega arith)
 
@@ -49,9 +43,6 @@ shared-slice-read-wide : tie.Need-shared-slice-read-wide Inv-loop μ-loop
 shared-slice-read-wide c =
     let l = c .before .before .before .before .loop in
     omega (arith, l .inv .within, size-two (c .before .before .before .before .before .before .before .args .kind - 128))
-
-wide-requires : tie.Need-wide-requires Inv-loop μ-loop
-wide-requires c κs = search needs
 
 returns-2 : tie.Need-returns-2 Inv-loop μ-loop
 returns-2 c =
@@ -86,15 +77,14 @@ run-of-spec =
     (tie.spec
     Inv-loop
     μ-loop
-    sub-size-of
-    size-of-requires
+    (λ c. search needs) (λ c κs. search needs)
     loop-holds
     sub-loop
     shared-slice-read-if1
     returns
     add-wide
     shared-slice-read-wide
-    wide-requires
+    (λ c κs. search needs)
     returns-2
     add-place
     loop-less

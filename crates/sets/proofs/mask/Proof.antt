@@ -4,12 +4,6 @@ use Rattle.sets.proofs.Laws.{alone-here, alone-else}
 use Rattle.sets.proofs.mask.Statement.{statement}
 use Rattle.sets.proofs.mask.Tie as tie
 
-cast-result : tie.Need-cast-result
-cast-result c = search needs
-
-shl-result : tie.Need-shl-result
-shl-result c = search needs
-
 returns : tie.Need-returns
 returns c = alone-here _ _ (c .if1 .taken)
 
@@ -17,4 +11,4 @@ returns-2 : tie.Need-returns-2
 returns-2 c = alone-else _ _ (c .if1 .left)
 
 pub mask-spec : {M : Type 1} → statement M
-mask-spec = tie.close (tie.spec cast-result shl-result returns returns-2)
+mask-spec = tie.close (tie.spec (λ c. search needs) (λ c. search needs) returns returns-2)

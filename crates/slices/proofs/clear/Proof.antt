@@ -28,15 +28,6 @@ returns c =
     let n = c .before .before .before .args .n in
     sym (sets-past (l .out) (l .k) (replicate (n - l .k) 0) (omega arith)) ∙ l .inv .0
 
-slice-write-out : tie.Need-slice-write-out Inv-loop μ-loop
-slice-write-out c = search needs
-
-add-k : tie.Need-add-k Inv-loop μ-loop
-add-k c = search needs
-
-loop-less : tie.Need-loop-less Inv-loop μ-loop
-loop-less c = search needs
-
 loop-again : tie.Need-loop-again Inv-loop μ-loop
 loop-again c =
     let l = c .before .before .loop in
@@ -60,9 +51,7 @@ clear-spec =
     loop-holds
     same-length
     returns
-    slice-write-out
-    add-k
-    loop-less
+    (λ c. search needs) (λ c. search needs) (λ c. search needs)
     loop-again
     same-length-2
     returns-2)

@@ -29,21 +29,6 @@ returns c =
     let s = c .before .before .before .args .s .now in
     sym (sets-past (l .out) (l .place) (drop (l .i) s) (omega arith)) ∙ l .inv .0
 
-shared-slice-read-out : tie.Need-shared-slice-read-out Inv-loop μ-loop
-shared-slice-read-out c = search needs
-
-slice-write-out : tie.Need-slice-write-out Inv-loop μ-loop
-slice-write-out c = search needs
-
-add-place : tie.Need-add-place Inv-loop μ-loop
-add-place c = search needs
-
-add-i : tie.Need-add-i Inv-loop μ-loop
-add-i c = search needs
-
-loop-less : tie.Need-loop-less Inv-loop μ-loop
-loop-less c = search needs
-
 loop-again : tie.Need-loop-again Inv-loop μ-loop
 loop-again c =
     let l = c .before .before .before .loop in
@@ -69,11 +54,7 @@ copy-spec =
     loop-holds
     same-length
     returns
-    shared-slice-read-out
-    slice-write-out
-    add-place
-    add-i
-    loop-less
+    (λ c. search needs) (λ c. search needs) (λ c. search needs) (λ c. search needs) (λ c. search needs)
     loop-again
     same-length-2
     returns-2)

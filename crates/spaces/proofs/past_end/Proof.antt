@@ -5,13 +5,10 @@ use Rattle.spaces.proofs.Laws.{past-end-is}
 use Rattle.spaces.proofs.past_end.Statement.{statement}
 use Rattle.spaces.proofs.past_end.Tie as tie
 
-wrapping-add-u64-requires : tie.Need-wrapping-add-u64-requires
-wrapping-add-u64-requires c κs = search needs
-
 returns : tie.Need-returns
 returns c =
     past-end-is (c .before .args .base) (c .before .args .length) _ (omega arith) (omega arith)
     (c .wrapping-add-u64 .ensures)
 
 pub past-end-spec : {M : Type 1} → statement M
-past-end-spec = tie.close (tie.spec wrapping-add-u64-requires returns)
+past-end-spec = tie.close (tie.spec (λ c κs. search needs) returns)

@@ -5,12 +5,9 @@ use borrow.Author.Needs.{needs}
 use Rattle.sums.proofs.to_store.Statement.{statement}
 use Rattle.sums.proofs.to_store.Tie as tie
 
-wrapping-sub-u8-requires : tie.Need-wrapping-sub-u8-requires
-wrapping-sub-u8-requires c κs = search needs
-
 returns : tie.Need-returns
 unfolding toStore
 returns c = omega arith
 
 pub to-store-spec : {M : Type 1} → statement M
-to-store-spec = tie.close (tie.spec wrapping-sub-u8-requires returns)
+to-store-spec = tie.close (tie.spec (λ c κs. search needs) returns)

@@ -6,9 +6,6 @@ use Rattle.text.proofs.Laws.{has-fits, stored-in, stored-out, decimal-i
 use Rattle.text.proofs.decimal.Statement.{statement}
 use Rattle.text.proofs.decimal.Tie as tie
 
-has-requires : tie.Need-has-requires
-has-requires c κs = search needs
-
 short-decimal-requires : tie.Need-short-decimal-requires
 short-decimal-requires c κs =
     let a = c .before .before .before .before .before .before .args in (
@@ -16,9 +13,6 @@ short-decimal-requires c κs =
       c
           .before .if2 .taken,
     )
-
-same-length : tie.Need-same-length
-same-length c = search needs
 
 returns : tie.Need-returns
 returns c =
@@ -35,9 +29,6 @@ long-decimal-requires c κs =
     let a = c .before .before .before .before .before .before .args in
     has-fits 20 (a .out .now) (a .at) (c .before .before .before .has .ensures) (c .before .before .if1 .taken)
 
-same-length-2 : tie.Need-same-length-2
-same-length-2 c = search needs
-
 returns-2 : tie.Need-returns-2
 returns-2 c =
     let k = c .before .before .before .before .before in
@@ -47,15 +38,6 @@ returns-2 c =
       stored-in 20 (a .out .now) (a .at) (ended (decimal (a .x)) (a .last)) (k .before .has .ensures)
           (k .if1 .taken) (f .1),
     )
-
-width-requires : tie.Need-width-requires
-width-requires c κs = search needs
-
-add-result : tie.Need-add-result
-add-result c = search needs
-
-same-length-3 : tie.Need-same-length-3
-same-length-3 c = search needs
 
 returns-3 : tie.Need-returns-3
 returns-3 c =
@@ -69,14 +51,12 @@ pub decimal-spec : {M : Type 1} → statement M
 decimal-spec =
     tie.close
     (tie.spec
-    has-requires
+    (λ c κs. search needs)
     short-decimal-requires
-    same-length
+    (λ c. search needs)
     returns
     long-decimal-requires
-    same-length-2
+    (λ c. search needs)
     returns-2
-    width-requires
-    add-result
-    same-length-3
+    (λ c κs. search needs) (λ c. search needs) (λ c. search needs)
     returns-3)

@@ -9,11 +9,8 @@ use Rattle.text.proofs.has.Tie as tie
 returns : tie.Need-returns
 returns c = let a = c .before .args in has-none (a .at) (a .n) (length (a .out .now)) (omega arith)
 
-sub-result : tie.Need-sub-result
-sub-result c = search needs
-
 returns-2 : tie.Need-returns-2
 returns-2 c = let a = c .before .args in has-room (a .at) (a .n) (length (a .out .now)) (omega arith)
 
 pub has-spec : {M : Type 1} → statement M
-has-spec = tie.close (tie.spec returns sub-result returns-2)
+has-spec = tie.close (tie.spec returns (λ c. search needs) returns-2)

@@ -9,9 +9,6 @@ use Rattle.text.proofs.Laws.{has-fits, stored-in, stored-out, hex-is, n
 use Rattle.text.proofs.hexadecimal.Statement.{statement}
 use Rattle.text.proofs.hexadecimal.Tie as tie
 
-has-requires : tie.Need-has-requires
-has-requires c κs = search needs
-
 -- What the test tells.
 fits :
     (c : tie.After-put-hex-arg)
@@ -29,12 +26,6 @@ add-out c = omega (arith, fits (c .before .before .before))
 slice-write-out : tie.Need-slice-write-out
 slice-write-out c = omega (arith, fits (c .before .before .before))
 
-add-result : tie.Need-add-result
-add-result c = search needs
-
-same-length : tie.Need-same-length
-same-length c = search needs
-
 returns : tie.Need-returns
 returns c =
     let k = c .before .before .before .before in
@@ -42,12 +33,6 @@ returns c =
     let w = ended (hex (a .k) (a .x)) (a .last) in
     let f = number-fits _ _ _ _ _ (hex-is (a .k) (a .x)) _ _ _ _ (c .before .before .put-hex .ensures) in
     (f .0, stored-in 20 (a .out .now) (a .at) w (k .before .has .ensures) (k .if1 .taken) (f .1))
-
-add-result-2 : tie.Need-add-result-2
-add-result-2 c = search needs
-
-same-length-2 : tie.Need-same-length-2
-same-length-2 c = search needs
 
 returns-2 : tie.Need-returns-2
 returns-2 c =
@@ -62,13 +47,11 @@ pub hexadecimal-spec : {M : Type 1} → statement M
 hexadecimal-spec =
     tie.close
     (tie.spec
-    has-requires
+    (λ c κs. search needs)
     put-hex-requires
     add-out
     slice-write-out
-    add-result
-    same-length
+    (λ c. search needs) (λ c. search needs)
     returns
-    add-result-2
-    same-length-2
+    (λ c. search needs) (λ c. search needs)
     returns-2)

@@ -4,24 +4,6 @@ use borrow.Author.Needs.{needs}
 use Rattle.text.proofs.long_decimal.Statement.{statement}
 use Rattle.text.proofs.long_decimal.Tie as tie
 
-width-requires : tie.Need-width-requires
-width-requires c κs = search needs
-
-put-decimal-requires : tie.Need-put-decimal-requires
-put-decimal-requires c κs = search needs
-
-add-out : tie.Need-add-out
-add-out c = search needs
-
-slice-write-out : tie.Need-slice-write-out
-slice-write-out c = search needs
-
-add-result : tie.Need-add-result
-add-result c = search needs
-
-same-length : tie.Need-same-length
-same-length c = search needs
-
 returns : tie.Need-returns
 returns c =
     let p = c .before .before .put-decimal in
@@ -31,10 +13,6 @@ pub long-decimal-spec : {M : Type 1} → statement M
 long-decimal-spec =
     tie.close
     (tie.spec
-    width-requires
-    put-decimal-requires
-    add-out
-    slice-write-out
-    add-result
-    same-length
+    (λ c κs. search needs) (λ c κs. search needs) (λ c. search needs) (λ c. search needs) (λ c. search needs)
+    (λ c. search needs)
     returns)

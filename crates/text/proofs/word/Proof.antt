@@ -6,16 +6,10 @@ use Rattle.text.proofs.Laws.{has-fits, stored-in, stored-out}
 use Rattle.text.proofs.word.Statement.{statement}
 use Rattle.text.proofs.word.Tie as tie
 
-has-requires : tie.Need-has-requires
-has-requires c κs = search needs
-
 put-word-requires : tie.Need-put-word-requires
 put-word-requires c κs =
     let a = c .before .before .before .before .before .before .args in
     has-fits (length (a .w .now)) (a .out .now) (a .at) (c .before .before .has .ensures) (c .before .if1 .taken)
-
-same-length : tie.Need-same-length
-same-length c = search needs
 
 returns : tie.Need-returns
 returns c =
@@ -26,9 +20,6 @@ returns c =
           (c .before .before .put-word .ensures),
     )
 
-same-length-2 : tie.Need-same-length-2
-same-length-2 c = search needs
-
 returns-2 : tie.Need-returns-2
 returns-2 c =
     let a = c .before .before .before .before .before .args in
@@ -36,4 +27,4 @@ returns-2 c =
 
 pub word-spec : {M : Type 1} → statement M
 word-spec =
-    tie.close (tie.spec has-requires put-word-requires same-length returns same-length-2 returns-2)
+    tie.close (tie.spec (λ c κs. search needs) put-word-requires (λ c. search needs) returns (λ c. search needs) returns-2)

@@ -5,30 +5,6 @@ use borrow.Author.Needs.{needs}
 use Rattle.widths.proofs.bus.Statement.{statement}
 use Rattle.widths.proofs.bus.Tie as tie
 
-inside-requires : tie.Need-inside-requires
-inside-requires c κs = search needs
-
-inside-requires-2 : tie.Need-inside-requires-2
-inside-requires-2 c κs = search needs
-
-field-requires : tie.Need-field-requires
-field-requires c κs = search needs
-
-add-result : tie.Need-add-result
-add-result c = search needs
-
-sub-kept : tie.Need-sub-kept
-sub-kept c = search needs
-
-part-kept-start : tie.Need-part-kept-start
-part-kept-start c = search needs
-
-part-kept-end : tie.Need-part-kept-end
-part-kept-end c = search needs
-
-kept-requires : tie.Need-kept-requires
-kept-requires c κs = search needs
-
 add-result-2 : tie.Need-add-result-2
 add-result-2 c =
     let j = c .before .before .before in
@@ -47,13 +23,7 @@ pub bus-spec : {M : Type 1} → statement M
 bus-spec =
     tie.close
     (tie.spec
-    inside-requires
-    inside-requires-2
-    field-requires
-    add-result
-    sub-kept
-    part-kept-start
-    part-kept-end
-    kept-requires
+    (λ c κs. search needs) (λ c κs. search needs) (λ c κs. search needs) (λ c. search needs) (λ c. search needs)
+    (λ c. search needs) (λ c. search needs) (λ c κs. search needs)
     add-result-2
     returns)

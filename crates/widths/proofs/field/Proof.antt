@@ -4,17 +4,8 @@ use borrow.Author.Needs.{needs}
 use Rattle.widths.proofs.field.Statement.{statement}
 use Rattle.widths.proofs.field.Tie as tie
 
-byte-requires : tie.Need-byte-requires
-byte-requires c κs = search needs
-
-cast-width : tie.Need-cast-width
-cast-width c = search needs
-
-width-requires : tie.Need-width-requires
-width-requires c κs = search needs
-
 returns : tie.Need-returns
 returns c = (field-is _ (c .before .byte .ensures) (c .width .ensures .0), c .width .ensures .1)
 
 pub field-spec : {M : Type 1} → statement M
-field-spec = tie.close (tie.spec byte-requires cast-width width-requires returns)
+field-spec = tie.close (tie.spec (λ c κs. search needs) (λ c. search needs) (λ c κs. search needs) returns)

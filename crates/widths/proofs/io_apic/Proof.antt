@@ -4,27 +4,6 @@ use borrow.Author.Needs.{needs}
 use Rattle.widths.proofs.io_apic.Statement.{statement}
 use Rattle.widths.proofs.io_apic.Tie as tie
 
-byte-requires : tie.Need-byte-requires
-byte-requires c κs = search needs
-
-field-requires : tie.Need-field-requires
-field-requires c κs = search needs
-
-add-result : tie.Need-add-result
-add-result c = search needs
-
-field-requires-2 : tie.Need-field-requires-2
-field-requires-2 c κs = search needs
-
-add-result-2 : tie.Need-add-result-2
-add-result-2 c = search needs
-
-on-off-requires : tie.Need-on-off-requires
-on-off-requires c κs = search needs
-
-add-result-3 : tie.Need-add-result-3
-add-result-3 c = search needs
-
 returns : tie.Need-returns
 returns c =
     let b = c .before .before .before in
@@ -35,11 +14,6 @@ pub io-apic-spec : {M : Type 1} → statement M
 io-apic-spec =
     tie.close
     (tie.spec
-    byte-requires
-    field-requires
-    add-result
-    field-requires-2
-    add-result-2
-    on-off-requires
-    add-result-3
+    (λ c κs. search needs) (λ c κs. search needs) (λ c. search needs) (λ c κs. search needs) (λ c. search needs)
+    (λ c κs. search needs) (λ c. search needs)
     returns)

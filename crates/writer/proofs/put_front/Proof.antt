@@ -9,32 +9,14 @@ use Rattle.writer.proofs.Laying.{front-is, stays}
 use Rattle.writer.proofs.put_front.Statement.{statement}
 use Rattle.writer.proofs.put_front.Tie as tie
 
-slice-aggregate-copy : tie.Need-slice-aggregate-copy
-slice-aggregate-copy c = search needs
-
-copy-requires : tie.Need-copy-requires
-copy-requires c κs = search needs
-
-put16-requires : tie.Need-put16-requires
-put16-requires c κs = search needs
-
-slice-write-out : tie.Need-slice-write-out
-slice-write-out c = search needs
-
 slice-write-out-2 : tie.Need-slice-write-out-2
 slice-write-out-2 c = omega (arith, length-set (c .before .before .put16 .last .0) 6 4)
 
 slice-aggregate-copy-2 : tie.Need-slice-aggregate-copy-2
 slice-aggregate-copy-2 c = search needs
 
-copy-requires-2 : tie.Need-copy-requires-2
-copy-requires-2 c κs = search needs
-
 slice-aggregate-copy-3 : tie.Need-slice-aggregate-copy-3
 slice-aggregate-copy-3 c = search needs
-
-copy-requires-3 : tie.Need-copy-requires-3
-copy-requires-3 c κs = search needs
 
 returns : tie.Need-returns
 unfolding text
@@ -57,14 +39,11 @@ pub put-front-spec : {M : Type 1} → statement M
 put-front-spec =
     tie.close
     (tie.spec
-    slice-aggregate-copy
-    copy-requires
-    put16-requires
-    slice-write-out
+    (λ c. search needs) (λ c κs. search needs) (λ c κs. search needs) (λ c. search needs)
     slice-write-out-2
     slice-aggregate-copy-2
-    copy-requires-2
+    (λ c κs. search needs)
     slice-aggregate-copy-3
-    copy-requires-3
+    (λ c κs. search needs)
     same-length
     returns)

@@ -7,24 +7,6 @@ use Rattle.writer.proofs.Laying.{rest-is, stays}
 use Rattle.writer.proofs.put_rest.Statement.{statement}
 use Rattle.writer.proofs.put_rest.Tie as tie
 
-put32-requires : tie.Need-put32-requires
-put32-requires c κs = search needs
-
-put16-requires : tie.Need-put16-requires
-put16-requires c κs = search needs
-
-put16-requires-2 : tie.Need-put16-requires-2
-put16-requires-2 c κs = search needs
-
-put32-requires-2 : tie.Need-put32-requires-2
-put32-requires-2 c κs = search needs
-
-put16-requires-3 : tie.Need-put16-requires-3
-put16-requires-3 c κs = search needs
-
-slice-write-out : tie.Need-slice-write-out
-slice-write-out c = search needs
-
 slice-write-out-2 : tie.Need-slice-write-out-2
 slice-write-out-2 c = omega (arith, length-set (c .before .before .put163 .last .0) 42 (c .before .before .before .before .before .before .before .before .before .before .before .before .before .before .before .before .before .before .before .before .before .args .sum))
 
@@ -48,12 +30,8 @@ pub put-rest-spec : {M : Type 1} → statement M
 put-rest-spec =
     tie.close
     (tie.spec
-    put32-requires
-    put16-requires
-    put16-requires-2
-    put32-requires-2
-    put16-requires-3
-    slice-write-out
+    (λ c κs. search needs) (λ c κs. search needs) (λ c κs. search needs) (λ c κs. search needs) (λ c κs. search needs)
+    (λ c. search needs)
     slice-write-out-2
     same-length
     returns)

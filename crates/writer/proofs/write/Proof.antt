@@ -8,9 +8,6 @@ use Rattle.writer.proofs.Calls.{write-base, write-extended, write-room,
 use Rattle.writer.proofs.write.Statement.{statement}
 use Rattle.writer.proofs.write.Tie as tie
 
-add-base-size : tie.Need-add-base-size
-add-base-size c = search needs
-
 returns : tie.Need-returns
 returns c =
     let a = c .before .before .before .before .args in
@@ -21,16 +18,10 @@ returns-2 c =
     let a = c .before .before .before .before .before .args in
     write-extended (partsGiven (a .fields) (a .base .now) (a .extended .now)) (a .room .now) (c .before .if1 .left) (c .if2 .taken)
 
-add-size : tie.Need-add-size
-add-size c = search needs
-
 returns-3 : tie.Need-returns-3
 returns-3 c =
     let a = c .before .before .before .before .before .before .args in
     write-room (partsGiven (a .fields) (a .base .now) (a .extended .now)) (a .room .now) (c .before .before .if1 .left) (c .before .if2 .left) (c .if3 .taken)
-
-slice-relend-prefix-lay-judged : tie.Need-slice-relend-prefix-lay-judged
-slice-relend-prefix-lay-judged c = search needs
 
 slice-aggregate-lay-judged : tie.Need-slice-aggregate-lay-judged
 slice-aggregate-lay-judged c =
@@ -41,9 +32,6 @@ lay-judged-requires : tie.Need-lay-judged-requires
 lay-judged-requires c κs =
     record { exact = sym (slice-aggregate-lay-judged c); base = c .before .before .before .if1 .left; extended = c .before .before .if2 .left }
 
-same-length : tie.Need-same-length
-same-length c = search needs
-
 returns-4 : tie.Need-returns-4
 returns-4 c =
     let l = c .before .before .before in
@@ -51,12 +39,6 @@ returns-4 c =
     let a = k .before .before .before .before .before .before .args in
     write-done (partsGiven (a .fields) (a .base .now) (a .extended .now)) (a .room .now) (k .before .before .if1 .left) (k .before .if2 .left) (k .if3 .left)
     (l .lay-judged .ensures .0) (l .lay-judged .ensures .1) (c .if4 .taken)
-
-clear-requires : tie.Need-clear-requires
-clear-requires c κs = search needs
-
-same-length-2 : tie.Need-same-length-2
-same-length-2 c = search needs
 
 returns-5 : tie.Need-returns-5
 returns-5 c =
@@ -71,16 +53,15 @@ pub write-spec : {M : Type 1} → statement M
 write-spec =
     tie.close
     (tie.spec
-    add-base-size
+    (λ c. search needs)
     returns
     returns-2
-    add-size
+    (λ c. search needs)
     returns-3
-    slice-relend-prefix-lay-judged
+    (λ c. search needs)
     slice-aggregate-lay-judged
     lay-judged-requires
-    same-length
+    (λ c. search needs)
     returns-4
-    clear-requires
-    same-length-2
+    (λ c κs. search needs) (λ c. search needs)
     returns-5)

@@ -5,24 +5,6 @@ use Rattle.answers.proofs.Laws.{told}
 use Rattle.answers.proofs.calls.parted.Statement.{statement}
 use Rattle.answers.proofs.calls.parted.Tie as tie
 
-parts-requires : tie.Need-parts-requires
-parts-requires c κs = search needs
-
-enum-known-said : tie.Need-enum-known-said
-enum-known-said c = search needs
-
-fields-requires : tie.Need-fields-requires
-fields-requires c κs = search needs
-
-parts-requires-2 : tie.Need-parts-requires-2
-parts-requires-2 c κs = search needs
-
-enum-known-said-2 : tie.Need-enum-known-said-2
-enum-known-said-2 c = search needs
-
-bare-requires : tie.Need-bare-requires
-bare-requires c κs = search needs
-
 returns : tie.Need-returns
 returns c =
     let values = rw (c .before .fields .ensures) at (c .parts2 .ensures .0) in
@@ -35,11 +17,7 @@ pub parted-spec : {M : Type 1} → statement M
 parted-spec =
     tie.close
     (tie.spec
-    parts-requires
-    enum-known-said
-    fields-requires
-    parts-requires-2
-    enum-known-said-2
-    bare-requires
+    (λ c κs. search needs) (λ c. search needs) (λ c κs. search needs) (λ c κs. search needs) (λ c. search needs)
+    (λ c κs. search needs)
     returns
     returns-2)

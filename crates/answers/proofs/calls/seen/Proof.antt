@@ -5,39 +5,6 @@ use Rattle.answers.proofs.Laws.{told}
 use Rattle.answers.proofs.calls.seen.Statement.{statement}
 use Rattle.answers.proofs.calls.seen.Tie as tie
 
-low8-requires : tie.Need-low8-requires
-low8-requires c κs = search needs
-
-low8-requires-2 : tie.Need-low8-requires-2
-low8-requires-2 c κs = search needs
-
-seen-requires : tie.Need-seen-requires
-seen-requires c κs = search needs
-
-enum-known-said : tie.Need-enum-known-said
-enum-known-said c = search needs
-
-two-requires : tie.Need-two-requires
-two-requires c κs = search needs
-
-enum-known-said-2 : tie.Need-enum-known-said-2
-enum-known-said-2 c = search needs
-
-two-requires-2 : tie.Need-two-requires-2
-two-requires-2 c κs = search needs
-
-enum-known-said-3 : tie.Need-enum-known-said-3
-enum-known-said-3 c = search needs
-
-two-requires-3 : tie.Need-two-requires-3
-two-requires-3 c κs = search needs
-
-enum-known-said-4 : tie.Need-enum-known-said-4
-enum-known-said-4 c = search needs
-
-bare-requires : tie.Need-bare-requires
-bare-requires c κs = search needs
-
 returns : tie.Need-returns
 returns c =
     let said = rw (c .before .before .before .before .before .before .low8 .ensures, c .before .before .before .before .before .low82 .ensures) at (c .before .before .before .before .seen .ensures) in
@@ -62,17 +29,9 @@ pub seen-spec : {M : Type 1} → statement M
 seen-spec =
     tie.close
     (tie.spec
-    low8-requires
-    low8-requires-2
-    seen-requires
-    enum-known-said
-    two-requires
-    enum-known-said-2
-    two-requires-2
-    enum-known-said-3
-    two-requires-3
-    enum-known-said-4
-    bare-requires
+    (λ c κs. search needs) (λ c κs. search needs) (λ c κs. search needs) (λ c. search needs) (λ c κs. search needs)
+    (λ c. search needs) (λ c κs. search needs) (λ c. search needs) (λ c κs. search needs) (λ c. search needs)
+    (λ c κs. search needs)
     returns
     returns-2
     returns-3

@@ -10,53 +10,12 @@ Inv-loop s start n at₀ i₀ at i = (start ≤ at) × (at ≤ start + 514 * i) 
 abbrev μ-loop : tie.MeasureT-loop
 μ-loop s start n at₀ i₀ at i = n - i
 
-loop-holds : tie.Need-loop-holds Inv-loop μ-loop
-loop-holds c = search needs
-
-returns : tie.Need-returns Inv-loop μ-loop
-returns c = search needs
-
-sub-size : tie.Need-sub-size Inv-loop μ-loop
-sub-size c = search needs
-
-part-size-start : tie.Need-part-size-start Inv-loop μ-loop
-part-size-start c = search needs
-
-part-size-end : tie.Need-part-size-end Inv-loop μ-loop
-part-size-end c = search needs
-
-size-requires : tie.Need-size-requires Inv-loop μ-loop
-size-requires c κs = search needs
-
-add-at : tie.Need-add-at Inv-loop μ-loop
-add-at c = search needs
-
-add-i : tie.Need-add-i Inv-loop μ-loop
-add-i c = search needs
-
-loop-less : tie.Need-loop-less Inv-loop μ-loop
-loop-less c = search needs
-
-loop-again : tie.Need-loop-again Inv-loop μ-loop
-loop-again c = search needs
-
-returns-2 : tie.Need-returns-2 Inv-loop μ-loop
-returns-2 c = search needs
-
 pub edits-end-spec : {M : Type 1} → statement M
 edits-end-spec =
     tie.close
     (tie.spec
     Inv-loop
     μ-loop
-    loop-holds
-    returns
-    sub-size
-    part-size-start
-    part-size-end
-    size-requires
-    add-at
-    add-i
-    loop-less
-    loop-again
-    returns-2)
+    (λ c. search needs) (λ c. search needs) (λ c. search needs) (λ c. search needs) (λ c. search needs)
+    (λ c κs. search needs) (λ c. search needs) (λ c. search needs) (λ c. search needs) (λ c. search needs)
+    (λ c. search needs))

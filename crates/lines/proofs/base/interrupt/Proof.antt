@@ -6,24 +6,6 @@ use Rattle.mps.specs.Numbers.{bytes}
 use Rattle.lines.proofs.base.interrupt.Statement.{statement}
 use Rattle.lines.proofs.base.interrupt.Tie as tie
 
-byte-requires : tie.Need-byte-requires
-byte-requires c κs = search needs
-
-interrupt-name-requires : tie.Need-interrupt-name-requires
-interrupt-name-requires c κs = search needs
-
-field-requires : tie.Need-field-requires
-field-requires c κs = search needs
-
-field-requires-2 : tie.Need-field-requires-2
-field-requires-2 c κs = search needs
-
-signal-requires : tie.Need-signal-requires
-signal-requires c κs = search needs
-
-same-length : tie.Need-same-length
-same-length c = search needs
-
 returns : tie.Need-returns
 returns c =
     let s = c .before .before in
@@ -41,10 +23,6 @@ pub interrupt-spec : {M : Type 1} → statement M
 interrupt-spec =
     tie.close
     (tie.spec
-    byte-requires
-    interrupt-name-requires
-    field-requires
-    field-requires-2
-    signal-requires
-    same-length
+    (λ c κs. search needs) (λ c κs. search needs) (λ c κs. search needs) (λ c κs. search needs) (λ c κs. search needs)
+    (λ c. search needs)
     returns)

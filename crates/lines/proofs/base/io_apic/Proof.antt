@@ -8,33 +8,6 @@ use Rattle.text.specs.Text.{ended}
 use Rattle.lines.proofs.base.io_apic.Statement.{statement}
 use Rattle.lines.proofs.base.io_apic.Tie as tie
 
-byte-requires : tie.Need-byte-requires
-byte-requires c κs = search needs
-
-slice-aggregate-word : tie.Need-slice-aggregate-word
-slice-aggregate-word c = search needs
-
-word-requires : tie.Need-word-requires
-word-requires c κs = search needs
-
-field-requires : tie.Need-field-requires
-field-requires c κs = search needs
-
-field-requires-2 : tie.Need-field-requires-2
-field-requires-2 c κs = search needs
-
-on-off-requires : tie.Need-on-off-requires
-on-off-requires c κs = search needs
-
-high-requires : tie.Need-high-requires
-high-requires c κs = search needs
-
-hex8-requires : tie.Need-hex8-requires
-hex8-requires c κs = search needs
-
-same-length : tie.Need-same-length
-same-length c = search needs
-
 returns : tie.Need-returns
 unfolding ended text
 returns c =
@@ -55,13 +28,6 @@ pub io-apic-spec : {M : Type 1} → statement M
 io-apic-spec =
     tie.close
     (tie.spec
-    byte-requires
-    slice-aggregate-word
-    word-requires
-    field-requires
-    field-requires-2
-    on-off-requires
-    high-requires
-    hex8-requires
-    same-length
+    (λ c κs. search needs) (λ c. search needs) (λ c κs. search needs) (λ c κs. search needs) (λ c κs. search needs)
+    (λ c κs. search needs) (λ c κs. search needs) (λ c κs. search needs) (λ c. search needs)
     returns)

@@ -6,30 +6,6 @@ use Rattle.mps.specs.Numbers.{bytes}
 use Rattle.lines.proofs.base.signal.Statement.{statement}
 use Rattle.lines.proofs.base.signal.Tie as tie
 
-byte-requires : tie.Need-byte-requires
-byte-requires c κs = search needs
-
-cast-decimal : tie.Need-cast-decimal
-cast-decimal c = search needs
-
-decimal-requires : tie.Need-decimal-requires
-decimal-requires c κs = search needs
-
-cast-decimal-2 : tie.Need-cast-decimal-2
-cast-decimal-2 c = search needs
-
-decimal-requires-2 : tie.Need-decimal-requires-2
-decimal-requires-2 c κs = search needs
-
-field-requires : tie.Need-field-requires
-field-requires c κs = search needs
-
-field-requires-2 : tie.Need-field-requires-2
-field-requires-2 c κs = search needs
-
-same-length : tie.Need-same-length
-same-length c = search needs
-
 returns : tie.Need-returns
 returns c =
     let f = c .before .before in
@@ -47,12 +23,6 @@ pub signal-spec : {M : Type 1} → statement M
 signal-spec =
     tie.close
     (tie.spec
-    byte-requires
-    cast-decimal
-    decimal-requires
-    cast-decimal-2
-    decimal-requires-2
-    field-requires
-    field-requires-2
-    same-length
+    (λ c κs. search needs) (λ c. search needs) (λ c κs. search needs) (λ c. search needs) (λ c κs. search needs)
+    (λ c κs. search needs) (λ c κs. search needs) (λ c. search needs)
     returns)

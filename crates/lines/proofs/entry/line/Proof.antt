@@ -7,18 +7,6 @@ use Rattle.lines.proofs.Numbers.{entry-line-is, bus-line-is, map-line-i
 use Rattle.lines.proofs.entry.line.Statement.{statement}
 use Rattle.lines.proofs.entry.line.Tie as tie
 
-le64-requires : tie.Need-le64-requires
-le64-requires c κs = search needs
-
-byte-requires : tie.Need-byte-requires
-byte-requires c κs = search needs
-
-bus-line-requires : tie.Need-bus-line-requires
-bus-line-requires c κs = search needs
-
-same-length : tie.Need-same-length
-same-length c = search needs
-
 returns : tie.Need-returns
 returns c =
     let m = c .before .before in
@@ -28,18 +16,6 @@ returns c =
     let s = l .before in
     rw (← bus-line-is (s .before .before .args .e .now) (l .le64 .result) (l .le64 .ensures)
     (λ k. omega (arith, s .shared-slice-known .given k)) (sym (b .byte .ensures) ∙ i .if1 .taken)) (m .bus-line .ensures)
-
-le64-requires-2 : tie.Need-le64-requires-2
-le64-requires-2 c κs = search needs
-
-le64-requires-3 : tie.Need-le64-requires-3
-le64-requires-3 c κs = search needs
-
-map-line-requires : tie.Need-map-line-requires
-map-line-requires c κs = search needs
-
-same-length-2 : tie.Need-same-length-2
-same-length-2 c = search needs
 
 returns-2 : tie.Need-returns-2
 returns-2 c =
@@ -54,9 +30,6 @@ returns-2 c =
     (λ k. omega (arith, s .shared-slice-known .given k)) (sym (b .byte .ensures) ∙ i .if2 .taken)
     (start .le642 .ensures) (size .le643 .ensures)) (m .map-line .ensures)
 
-roomy-requires : tie.Need-roomy-requires
-roomy-requires c κs = search needs
-
 other-requires : tie.Need-other-requires
 other-requires c κs =
     let r = c .before .before in
@@ -68,12 +41,6 @@ other-requires c κs =
       λ q. bus .if1 .left (b .byte .ensures ∙ q),
       λ q. map .if2 .left (b .byte .ensures ∙ q),
     )
-
-sub-result : tie.Need-sub-result
-sub-result c = search needs
-
-same-length-3 : tie.Need-same-length-3
-same-length-3 c = search needs
 
 returns-3 : tie.Need-returns-3
 returns-3 c =
@@ -88,21 +55,6 @@ returns-3 c =
     (λ k. omega (arith, s .shared-slice-known .given k)) (λ q. bus .if1 .left (b .byte .ensures ∙ q))
     (λ q. map .if2 .left (b .byte .ensures ∙ q)))
     (direct (o .other .ensures .0))
-
-slice-aggregate-other : tie.Need-slice-aggregate-other
-slice-aggregate-other c = search needs
-
-other-requires-2 : tie.Need-other-requires-2
-other-requires-2 c κs = search needs
-
-slice-aggregate-moved : tie.Need-slice-aggregate-moved
-slice-aggregate-moved c = search needs
-
-moved-requires : tie.Need-moved-requires
-moved-requires c κs = search needs
-
-same-length-4 : tie.Need-same-length-4
-same-length-4 c = search needs
 
 returns-4 : tie.Need-returns-4
 returns-4 c =
@@ -124,24 +76,13 @@ pub line-spec : {M : Type 1} → statement M
 line-spec =
     tie.close
     (tie.spec
-    le64-requires
-    byte-requires
-    bus-line-requires
-    same-length
+    (λ c κs. search needs) (λ c κs. search needs) (λ c κs. search needs) (λ c. search needs)
     returns
-    le64-requires-2
-    le64-requires-3
-    map-line-requires
-    same-length-2
+    (λ c κs. search needs) (λ c κs. search needs) (λ c κs. search needs) (λ c. search needs)
     returns-2
-    roomy-requires
+    (λ c κs. search needs)
     other-requires
-    sub-result
-    same-length-3
+    (λ c. search needs) (λ c. search needs)
     returns-3
-    slice-aggregate-other
-    other-requires-2
-    slice-aggregate-moved
-    moved-requires
-    same-length-4
+    (λ c. search needs) (λ c κs. search needs) (λ c. search needs) (λ c κs. search needs) (λ c. search needs)
     returns-4)

@@ -5,15 +5,6 @@ use Rattle.lines.proofs.EntryLines.{base-line, extended-line}
 use Rattle.lines.proofs.entry.other.Statement.{statement}
 use Rattle.lines.proofs.entry.other.Tie as tie
 
-byte-requires : tie.Need-byte-requires
-byte-requires c κs = search needs
-
-entry-requires : tie.Need-entry-requires
-entry-requires c κs = search needs
-
-same-length : tie.Need-same-length
-same-length c = search needs
-
 returns : tie.Need-returns
 returns c =
     let w = c .before .before in
@@ -21,12 +12,6 @@ returns c =
     let b = i .before in
     let e = bytes 8 (b .before .before .args .e) in
     (rw (base-line e (b .byte .ensures) (i .if1 .taken)) (w .entry .ensures .0), w .entry .ensures .1)
-
-entry-requires-2 : tie.Need-entry-requires-2
-entry-requires-2 c κs = search needs
-
-same-length-2 : tie.Need-same-length-2
-same-length-2 c = search needs
 
 returns-2 : tie.Need-returns-2
 returns-2 c =
@@ -40,10 +25,7 @@ pub other-spec : {M : Type 1} → statement M
 other-spec =
     tie.close
     (tie.spec
-    byte-requires
-    entry-requires
-    same-length
+    (λ c κs. search needs) (λ c κs. search needs) (λ c. search needs)
     returns
-    entry-requires-2
-    same-length-2
+    (λ c κs. search needs) (λ c. search needs)
     returns-2)

@@ -6,15 +6,6 @@ use Rattle.mps.specs.Numbers.{bytes}
 use Rattle.lines.proofs.extended.entry.Statement.{statement}
 use Rattle.lines.proofs.extended.entry.Tie as tie
 
-byte-requires : tie.Need-byte-requires
-byte-requires c κs = search needs
-
-tree-requires : tie.Need-tree-requires
-tree-requires c κs = search needs
-
-same-length : tie.Need-same-length
-same-length c = search needs
-
 returns : tie.Need-returns
 returns c =
     let t = c .before .before in
@@ -26,12 +17,6 @@ returns c =
           (i .if1 .taken)) (t .tree .ensures .0),
       t .tree .ensures .1,
     )
-
-modifier-requires : tie.Need-modifier-requires
-modifier-requires c κs = search needs
-
-same-length-2 : tie.Need-same-length-2
-same-length-2 c = search needs
 
 returns-2 : tie.Need-returns-2
 returns-2 c =
@@ -45,12 +30,6 @@ returns-2 c =
           (i' .if1 .left) (i .if2 .taken)) (m .modifier .ensures .0),
       m .modifier .ensures .1,
     )
-
-skip-requires : tie.Need-skip-requires
-skip-requires c κs = search needs
-
-same-length-3 : tie.Need-same-length-3
-same-length-3 c = search needs
 
 returns-3 : tie.Need-returns-3
 returns-3 c =
@@ -69,13 +48,9 @@ pub entry-spec : {M : Type 1} → statement M
 entry-spec =
     tie.close
     (tie.spec
-    byte-requires
-    tree-requires
-    same-length
+    (λ c κs. search needs) (λ c κs. search needs) (λ c. search needs)
     returns
-    modifier-requires
-    same-length-2
+    (λ c κs. search needs) (λ c. search needs)
     returns-2
-    skip-requires
-    same-length-3
+    (λ c κs. search needs) (λ c. search needs)
     returns-3)

@@ -4,21 +4,6 @@ use Rattle.lines.proofs.Laws.{buffered}
 use Rattle.lines.proofs.frame.default.Statement.{statement}
 use Rattle.lines.proofs.frame.default.Tie as tie
 
-slice-aggregate-put-default : tie.Need-slice-aggregate-put-default
-slice-aggregate-put-default c = search needs
-
-put-default-requires : tie.Need-put-default-requires
-put-default-requires c κs = search needs
-
-slice-aggregate-moved : tie.Need-slice-aggregate-moved
-slice-aggregate-moved c = search needs
-
-moved-requires : tie.Need-moved-requires
-moved-requires c κs = search needs
-
-same-length : tie.Need-same-length
-same-length c = search needs
-
 returns : tie.Need-returns
 returns c =
     let m = c .before .before in
@@ -31,9 +16,5 @@ pub default-spec : {M : Type 1} → statement M
 default-spec =
     tie.close
     (tie.spec
-    slice-aggregate-put-default
-    put-default-requires
-    slice-aggregate-moved
-    moved-requires
-    same-length
+    (λ c. search needs) (λ c κs. search needs) (λ c. search needs) (λ c κs. search needs) (λ c. search needs)
     returns)

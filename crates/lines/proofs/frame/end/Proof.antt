@@ -7,15 +7,6 @@ use Rattle.text.specs.Text.{ended}
 use Rattle.lines.proofs.frame.end.Statement.{statement}
 use Rattle.lines.proofs.frame.end.Tie as tie
 
-slice-aggregate-copy : tie.Need-slice-aggregate-copy
-slice-aggregate-copy c = search needs
-
-copy-requires : tie.Need-copy-requires
-copy-requires c κs = search needs
-
-same-length : tie.Need-same-length
-same-length c = search needs
-
 returns : tie.Need-returns
 unfolding ended text
 returns c =
@@ -23,4 +14,4 @@ returns c =
     rw (← end-is) (refl, c' .copy .ensures)
 
 pub end-spec : {M : Type 1} → statement M
-end-spec = tie.close (tie.spec slice-aggregate-copy copy-requires same-length returns)
+end-spec = tie.close (tie.spec (λ c. search needs) (λ c κs. search needs) (λ c. search needs) returns)

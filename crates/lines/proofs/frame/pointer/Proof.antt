@@ -4,9 +4,6 @@ use Rattle.lines.proofs.Laws.{roomy-fits, direct, buffered}
 use Rattle.lines.proofs.frame.pointer.Statement.{statement}
 use Rattle.lines.proofs.frame.pointer.Tie as tie
 
-roomy-requires : tie.Need-roomy-requires
-roomy-requires c κs = search needs
-
 put-pointer-requires : tie.Need-put-pointer-requires
 put-pointer-requires c κs =
     let i = c .before in
@@ -14,31 +11,10 @@ put-pointer-requires c κs =
     let args = r .before .before .before .args in
     roomy-fits (args .out .now) (args .at) (r .roomy .ensures) (i .if1 .taken)
 
-sub-result : tie.Need-sub-result
-sub-result c = search needs
-
-same-length : tie.Need-same-length
-same-length c = search needs
-
 returns : tie.Need-returns
 returns c =
     let p = c .before .before in
     direct (p .put-pointer .ensures .0)
-
-slice-aggregate-put-pointer : tie.Need-slice-aggregate-put-pointer
-slice-aggregate-put-pointer c = search needs
-
-put-pointer-requires-2 : tie.Need-put-pointer-requires-2
-put-pointer-requires-2 c κs = search needs
-
-slice-aggregate-moved : tie.Need-slice-aggregate-moved
-slice-aggregate-moved c = search needs
-
-moved-requires : tie.Need-moved-requires
-moved-requires c κs = search needs
-
-same-length-2 : tie.Need-same-length-2
-same-length-2 c = search needs
 
 returns-2 : tie.Need-returns-2
 returns-2 c =
@@ -52,14 +28,9 @@ pub pointer-spec : {M : Type 1} → statement M
 pointer-spec =
     tie.close
     (tie.spec
-    roomy-requires
+    (λ c κs. search needs)
     put-pointer-requires
-    sub-result
-    same-length
+    (λ c. search needs) (λ c. search needs)
     returns
-    slice-aggregate-put-pointer
-    put-pointer-requires-2
-    slice-aggregate-moved
-    moved-requires
-    same-length-2
+    (λ c. search needs) (λ c κs. search needs) (λ c. search needs) (λ c κs. search needs) (λ c. search needs)
     returns-2)

@@ -7,18 +7,6 @@ use Rattle.text.specs.Text.{ended}
 use Rattle.lines.proofs.frame.put_refused.Statement.{statement}
 use Rattle.lines.proofs.frame.put_refused.Tie as tie
 
-slice-aggregate-word : tie.Need-slice-aggregate-word
-slice-aggregate-word c = search needs
-
-word-requires : tie.Need-word-requires
-word-requires c κs = search needs
-
-decimal-requires : tie.Need-decimal-requires
-decimal-requires c κs = search needs
-
-same-length : tie.Need-same-length
-same-length c = search needs
-
 returns : tie.Need-returns
 unfolding ended text
 returns c =
@@ -29,4 +17,4 @@ returns c =
 
 pub put-refused-spec : {M : Type 1} → statement M
 put-refused-spec =
-    tie.close (tie.spec slice-aggregate-word word-requires decimal-requires same-length returns)
+    tie.close (tie.spec (λ c. search needs) (λ c κs. search needs) (λ c κs. search needs) (λ c. search needs) returns)

@@ -7,27 +7,6 @@ use Rattle.text.specs.Text.{ended}
 use Rattle.lines.proofs.frame.put_table.Statement.{statement}
 use Rattle.lines.proofs.frame.put_table.Tie as tie
 
-slice-aggregate-word : tie.Need-slice-aggregate-word
-slice-aggregate-word c = search needs
-
-word-requires : tie.Need-word-requires
-word-requires c κs = search needs
-
-hex8-requires : tie.Need-hex8-requires
-hex8-requires c κs = search needs
-
-decimal-requires : tie.Need-decimal-requires
-decimal-requires c κs = search needs
-
-decimal-requires-2 : tie.Need-decimal-requires-2
-decimal-requires-2 c κs = search needs
-
-decimal-requires-3 : tie.Need-decimal-requires-3
-decimal-requires-3 c κs = search needs
-
-same-length : tie.Need-same-length
-same-length c = search needs
-
 returns : tie.Need-returns
 unfolding ended text
 returns c =
@@ -46,11 +25,6 @@ pub put-table-spec : {M : Type 1} → statement M
 put-table-spec =
     tie.close
     (tie.spec
-    slice-aggregate-word
-    word-requires
-    hex8-requires
-    decimal-requires
-    decimal-requires-2
-    decimal-requires-3
-    same-length
+    (λ c. search needs) (λ c κs. search needs) (λ c κs. search needs) (λ c κs. search needs) (λ c κs. search needs)
+    (λ c κs. search needs) (λ c. search needs)
     returns)

@@ -23,18 +23,9 @@ loop-holds : tie.Need-loop-holds Inv-loop μ-loop
 unfolding isBusName
 loop-holds c = (refl, omega arith)
 
-mul-row : tie.Need-mul-row Inv-loop μ-loop
-mul-row c = search needs
-
-array-copy-out-row : tie.Need-array-copy-out-row Inv-loop μ-loop
-array-copy-out-row c = search needs
-
 slice-aggregate-same : tie.Need-slice-aggregate-same Inv-loop μ-loop
 unfolding busNames text
 slice-aggregate-same c = sym (names-six (c .before .before .before .loop .k) (omega arith))
-
-same-requires : tie.Need-same-requires Inv-loop μ-loop
-same-requires c κs = search needs
 
 returns : tie.Need-returns Inv-loop μ-loop
 unfolding busNames text
@@ -43,12 +34,6 @@ returns c =
     let l = c .before .before .before .before .before .loop in
     let hit = sym (c .before .same .ensures) ∙ c .if1 .taken in
     sym (any-stop (same name) busNames [] (l .k) (omega arith) hit) ∙ l .inv .0
-
-add-k : tie.Need-add-k Inv-loop μ-loop
-add-k c = search needs
-
-loop-less : tie.Need-loop-less Inv-loop μ-loop
-loop-less c = search needs
 
 loop-again : tie.Need-loop-again Inv-loop μ-loop
 unfolding busNames text
@@ -72,12 +57,10 @@ is-bus-name-spec =
     Inv-loop
     μ-loop
     loop-holds
-    mul-row
-    array-copy-out-row
+    (λ c. search needs) (λ c. search needs)
     slice-aggregate-same
-    same-requires
+    (λ c κs. search needs)
     returns
-    add-k
-    loop-less
+    (λ c. search needs) (λ c. search needs)
     loop-again
     returns-2)

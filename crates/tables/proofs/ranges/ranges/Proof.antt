@@ -8,9 +8,6 @@ use Rattle.tables.proofs.Laws.{values, values-at, ranges-low}
 use Rattle.tables.proofs.ranges.ranges.Statement.{statement}
 use Rattle.tables.proofs.ranges.ranges.Tie as tie
 
-array-read-result : tie.Need-array-read-result
-array-read-result c = search needs
-
 returns : tie.Need-returns
 unfolding values rangesAt isa vga
 returns c =
@@ -18,4 +15,4 @@ returns c =
     values-at rangesAt 1024 (a % 1024) 0 (omega arith) ∙ ranges-low a
 
 pub ranges-spec : {M : Type 1} → statement M
-ranges-spec = tie.close (tie.spec array-read-result returns)
+ranges-spec = tie.close (tie.spec (λ c. search needs) returns)
