@@ -10,3 +10,4 @@ pub mod Rows
 pub mod Small
 pub mod Refusals
 pub mod Circle
+pub mod Lent

@@ -1,34 +1,35 @@
 -- What the calls answer, and what they leave. Assumes nothing.
-use Prim.Native.Nat.{ℕ, zero, suc, _+_, _≤_, _<_}
+use Prim.Native.Nat.{ℕ, _+_, _≤_, _<_}
 use mathlib.Core.Path.{_≡_, refl, ap, sym, _∙_}
 use mathlib.Core.Bool.{true, false}
 use mathlib.Core.List.{List, [], _∷_, _++_, append-assoc}
 use native.Mathlib.Omega.{arith}
 use lib.ListN.{length, length-append}
-use lib.Dec.{ltb, leb}
+use lib.Dec.{leb}
 use lib.Seq.{sets}
-use borrow.Author.Tests.{lt-ltb, le-ltb, ne-eqb}
-use Rattle.mps.specs.Words.{text, part, joined, among, each, any, first, head}
+use borrow.Author.Tests.{ne-eqb}
+use Rattle.mps.specs.Words.{text, part, joined, among, each, any}
 use Rattle.mps.specs.Sums.{total}
-use Rattle.mps.specs.Refusals.{Rule, _when_, refusal}
-use Rattle.mps.specs.Answers.{writtenNumbers}
+use Rattle.mps.specs.Refusals.{Rule, roomNumber}
+use Rattle.mps.specs.Rooms.{tooSmall, fitted, fittedBytes, fitLeft}
 use Rattle.mps.specs.Layout.{baseLength, extendedLength, entryCount, baseEntries, extendedEntries}
 use Rattle.mps.specs.Layout.{feature1}
 use Rattle.mps.specs.Pointer.{pointerBytes, isDefault, imcrOf}
 use Rattle.mps.specs.Judge.{pointerRules, tableRules, dumpRules, dumpRefusal}
 use Rattle.mps.specs.Listing.{decimal, decimalWidth, hex}
 use Rattle.mps.specs.Listing.{baseLine, extendedLine, pointerLine, tableLine, endLine, defaultLine, refusedLine, tableLines, listing}
-use Rattle.mps.specs.Listing.{listRefusal, listed, listLeft, programOutput, printRefusal, printed, printLeft}
-use Rattle.mps.specs.declared.Written.{Written}
-use Rattle.mps.specs.declared.Written.the-variants.{Bytes, Refused}
+use Rattle.mps.specs.Listing.{listRefusal, listed, listLeft, programOutput, printed, printLeft}
+use Rattle.mps.specs.declared.Lent.{Lent}
+use Rattle.mps.specs.declared.Lent.the-variants.{Count, Refused}
 use Rattle.laws.proofs.Tests.{whether}
-use Rattle.laws.proofs.Refusals.{number, refusal-append, refusal-below}
+use Rattle.laws.proofs.Refusals.{number, refusal-none, refusal-below}
+use Rattle.laws.proofs.Lent.{lent-early, lent-none, lent-19, lent-before, left-kept, lent-refused, count-given, refused-given, fit-put, fit-short, fit-late}
 use Rattle.dump.proofs.Laws.{Pointed}
-use Rattle.laws.proofs.Stores.{sets-past, sets-at-start}
+use Rattle.laws.proofs.Stores.{sets-past}
 use Rattle.text.proofs.Laws.{length-decimal, length-hex, length-line}
 use Rattle.lines.specs.Wrote.{Wrote}
 use Rattle.lines.proofs.Laws.{then}
-use Rattle.listing.specs.Fits.{fitted, fitLeft, tableText, frameLength, entriesText}
+use Rattle.listing.specs.Texts.{tableText, frameLength, entriesText}
 
 -- ---- A room and an answer
 
@@ -36,33 +37,15 @@ use Rattle.listing.specs.Fits.{fitted, fitLeft, tableText, frameLength, 
 nothing : (v w : List ℕ) → v ≡ sets [] 0 w → v ≡ []
 nothing v w e = e ∙ sets-past [] 0 w (omega arith)
 
--- A room that is known to be long enough.
-pub sure :
-    (w room u : List ℕ) {n : ℕ} → n ≡ length w → length w ≤ length room → u ≡ sets room 0 w
-    → (Bytes n ≡ fitted w room) × (u ≡ fitLeft w room)
-unfolding fitted fitLeft
-sure w room u e h k =
-    let t = le-ltb (length room) (length w) h in
-    (rw (t, e), rw (t, k) (sets-at-start room w h))
-
--- A room that is too short.
-pub short :
-    (w room : List ℕ) {n : ℕ} → n ≡ length w → length room < n
-    → (Refused 19 ≡ fitted w room) × (room ≡ fitLeft w room)
-unfolding fitted fitLeft
-short w room e h =
-    let t = lt-ltb (length room) (length w) (omega arith) in
-    (rw t, rw t)
-
--- .. as one learns by making the answer in no room.
+-- Whether it fits is learnt by making the answer in no room.
 module _ (w room v : List ℕ) {n : ℕ} (m : v ≡ sets [] 0 w) (e : n ≡ length w) where
-  pub too-long : length (v ++ room) < n → (Refused 19 ≡ fitted w room) × (v ++ room ≡ fitLeft w room)
-  too-long h = rw (nothing v w m) (short w room e (rw (nothing v w m) at h))
+  pub too-long : length (v ++ room) < n → (Refused 19 ≡ fittedBytes w room) × (v ++ room ≡ fitLeft w room)
+  too-long h = let z = rw (nothing v w m) at h in rw (nothing v w m) (fit-short w (length w) room (omega arith))
 
-  pub it-fits : (u : List ℕ) → n ≤ length (v ++ room) → u ≡ sets (v ++ room) 0 w → (Bytes n ≡ fitted w room) × (u ≡ fitLeft w room)
+  pub it-fits : (u : List ℕ) → n ≤ length (v ++ room) → u ≡ sets (v ++ room) 0 w → (Count n ≡ fittedBytes w room) × (u ≡ fitLeft w room)
   it-fits u h k =
       let z = rw (nothing v w m) at h in
-      sure w room u e (omega arith) (rw (nothing v w m) at k)
+      fit-put w (length w) room e (omega arith) (rw (nothing v w m) at k)
 
 -- ---- The listing of a table from its parts
 
@@ -132,33 +115,38 @@ dump-given : (d : List ℕ) → (among 0 (each number (dumpRules d)) ≡ false) 
 unfolding dumpRules pointerRules tableRules among each any
 dump-given d = whether (isDefault d) (λ t. rw t (refl, refl)) (λ f. rw f (refl, refl))
 
+never-19 : (d : List ℕ) → among roomNumber (each number (dumpRules d)) ≡ false
+unfolding dumpRules pointerRules tableRules among each
+never-19 d = whether (isDefault d) (λ t. rw t refl) (λ f. rw f refl)
+
 pub dump-below : (d : List ℕ) → dumpRefusal d < 19
 unfolding dumpRefusal
 dump-below d = refusal-below 19 (dumpRules d) (omega arith) (dump-given d .1)
 
-pub list-number : (d room : List ℕ) → listRefusal d room ≡ first (dumpRefusal d) (refusal (19 when ltb (length room) (length (listing d)) ∷ []))
-unfolding listRefusal dumpRefusal
-list-number d room = refusal-append (dumpRules d) _ (dump-given d .0)
+module _ (d room : List ℕ) where
+  pub list-none : listRefusal d room ≡ 0 → dumpRefusal d ≡ 0
+  unfolding listRefusal dumpRefusal
+  list-none e = lent-none (dumpRules d) (dump-given d .0) _ e .0
 
-pub list-refused : (d room : List ℕ) (n : ℕ) → dumpRefusal d ≡ n → 0 < n → (Refused n ≡ listed d room) × (room ≡ listLeft d room)
-unfolding listed listLeft
-list-refused d room zero e p = absurd (omega arith)
-list-refused d room (suc n) e p =
-    let k : listRefusal d room ≡ suc n = rw e at (list-number d room) in
-    (rw k, rw (k, ne-eqb (suc n) 0 (λ q. omega arith)))
+  early : {n : ℕ} → dumpRefusal d ≡ n → 0 < n → listRefusal d room ≡ n
+  unfolding listRefusal dumpRefusal
+  early e p = lent-early (dumpRules d) (dump-given d .0) _ e (λ z. omega arith)
+
+  pub list-refused : (n : ℕ) → dumpRefusal d ≡ n → 0 < n → (Refused n ≡ listed d room) × (room ≡ listLeft d room)
+  unfolding listed listLeft
+  list-refused n e p =
+      let k = early e p in
+      let z : n ≡ 0 → ⊥ = λ z. omega arith in
+      (rw k (lent-refused n _ z), rw k (sym (left-kept n _ room z)))
 
 -- An accepted dump's listing goes into the room as any answer does.
 module _ (d room : List ℕ) (e : dumpRefusal d ≡ 0) where
-  list-fits : (fitted (listing d) room ≡ listed d room) × (fitLeft (listing d) room ≡ listLeft d room)
-  unfolding fitted fitLeft listed listLeft refusal
-  list-fits =
-      let k = rw e at (list-number d room) in
-      whether (ltb (length room) (length (listing d)))
-      (λ t. let q = rw t at k in (rw (t, q), rw (t, q)))
-      (λ f. let q = rw f at k in (rw (f, q), rw (f, q)))
+  list-fits : (fittedBytes (listing d) room ≡ listed d room) × (fitLeft (listing d) room ≡ listLeft d room)
+  unfolding fitted fitLeft listed listLeft listRefusal dumpRefusal
+  list-fits = let k = fit-late (dumpRules d) (dump-given d .0) (listing d) room e in (rw k, rw k)
 
   pub list-written :
-      {r : Written} {u w : List ℕ} → w ≡ listing d → (r ≡ fitted w room) × (u ≡ fitLeft w room)
+      {r : Lent} {u w : List ℕ} → w ≡ listing d → (r ≡ fittedBytes w room) × (u ≡ fitLeft w room)
       → (r ≡ listed d room) × (u ≡ listLeft d room)
   list-written {r} {u} {w} q h = (rw q at (h .0) ∙ list-fits .0, rw q at (h .1) ∙ list-fits .1)
 
@@ -173,80 +161,40 @@ table-text d h = rw (h .table, h .place, h .bit, h .address, h .bytes)
 
 -- ---- What the program writes
 
--- An answer's number, and how many numbers it has.
-numberOf : Written → ℕ
-numberOf r = head 0 (writtenNumbers r)
-
-valueCount : Written → ℕ
-valueCount r = length (writtenNumbers r)
-
 module _ (d room : List ℕ) where
-  pub print-fits : (fitted (programOutput d) room ≡ printed d room) × (fitLeft (programOutput d) room ≡ printLeft d room)
-  unfolding fitted fitLeft printed printLeft printRefusal refusal
-  print-fits = whether (ltb (length room) (length (programOutput d))) (λ t. (rw t, rw t)) (λ f. (rw f, rw f))
-
   -- Of an accepted dump it writes what the listing is, or 19;
   print-accepted : dumpRefusal d ≡ 0 → (listed d room ≡ printed d room) × (listLeft d room ≡ printLeft d room)
-  unfolding programOutput
+  unfolding programOutput printed printLeft
   print-accepted e =
       let o : programOutput d ≡ listing d = rw e in
-      (sym (list-fits d room e .0) ∙ rw (← o) (print-fits .0), sym (list-fits d room e .1) ∙ rw (← o) (print-fits .1))
+      (rw o (sym (list-fits d room e .0)), rw o (sym (list-fits d room e .1)))
 
   -- of any other the one line.
-  print-line : (n : ℕ) → dumpRefusal d ≡ suc n → programOutput d ≡ refusedLine (suc n)
+  print-line : (n : ℕ) → dumpRefusal d ≡ n → 0 < n → programOutput d ≡ refusedLine n
   unfolding programOutput
-  print-line n e = rw (e, ne-eqb (suc n) 0 (λ q. omega arith))
+  print-line n e p = rw (e, ne-eqb n 0 (λ q. omega arith))
 
-  -- From the listing's answer to the dump's number: one of the dump's own, or else 0.
-  number-cases : {C : Type 0} → (dumpRefusal d ≡ 0 → C) → ((n : ℕ) → dumpRefusal d ≡ suc n → Refused (suc n) ≡ listed d room → C) → C
-  number-cases {C} f g = cases (dumpRefusal d) refl
-    where
-      cases : (k : ℕ) → dumpRefusal d ≡ k → C
-      cases zero q = f q
-      cases (suc k) q = g k q (list-refused d room (suc k) q (omega arith) .0)
+  pub print-count : {u : List ℕ} {n : ℕ} → Count n ≡ listed d room → u ≡ listLeft d room → (Count n ≡ printed d room) × (u ≡ printLeft d room)
+  unfolding listed
+  print-count e w =
+      let h = print-accepted (list-none d room (count-given _ _ e .0)) in
+      (e ∙ h .0, w ∙ h .1)
 
-  pub print-bytes : {u : List ℕ} {n : ℕ} → Bytes n ≡ listed d room → u ≡ listLeft d room → (Bytes n ≡ printed d room) × (u ≡ printLeft d room)
-  unfolding valueCount
-  print-bytes e w =
-      number-cases
-      (λ z. (e ∙ print-accepted z .0, w ∙ print-accepted z .1))
-      (λ n q h. absurd (omega (arith, ap valueCount (e ∙ sym h))))
-
+  -- 19 is the room's, so that the dump is accepted; any other number is the dump's.
   pub print-room : {u : List ℕ} → Refused 19 ≡ listed d room → u ≡ listLeft d room → (Refused 19 ≡ printed d room) × (u ≡ printLeft d room)
-  unfolding numberOf
+  unfolding listed listRefusal dumpRefusal
   print-room e w =
-      number-cases
-      (λ z. (e ∙ print-accepted z .0, w ∙ print-accepted z .1))
-      (λ n q h. absurd (omega (arith, ap numberOf (e ∙ sym h), dump-below d, q)))
-
-  -- A number that the listing gives and that is not 19 is the dump's.
-  dump-refused : (n : ℕ) → Refused n ≡ listed d room → (n ≡ 19 → ⊥) → dumpRefusal d ≡ n
-  unfolding fitted numberOf valueCount
-  dump-refused n e f =
-      number-cases
-      (λ z.
-      let k = e ∙ sym (list-fits d room z .0) in
-      whether (ltb (length room) (length (listing d)))
-      (λ t. absurd (f (ap numberOf (rw t at k))))
-      (λ g. absurd (omega (arith, ap valueCount (rw g at k)))))
-      (λ k q h. q ∙ ap numberOf (h ∙ sym e))
-
-  -- No refusal has the number 0.
-  never-0 : Refused 0 ≡ listed d room → ⊥
-  unfolding fitted numberOf valueCount
-  never-0 e =
-      let z = dump-refused 0 e (λ q. omega (arith, q)) in
-      let k = e ∙ sym (list-fits d room z .0) in
-      whether (ltb (length room) (length (listing d)))
-      (λ t. omega (arith, ap numberOf (rw t at k)))
-      (λ g. omega (arith, ap valueCount (rw g at k)))
+      let k = lent-19 (dumpRules d) (tooSmall (length (listing d)) room) (never-19 d) .0 (refused-given _ _ e .1) in
+      let h = print-accepted (refusal-none (dumpRules d) (dump-given d .0) .1 (k .0)) in
+      (e ∙ h .0, w ∙ h .1)
 
   pub print-refusal :
-      {r : Written} {u v : List ℕ} (n : ℕ) → Refused n ≡ listed d room → (n ≡ 19 → ⊥) → v ≡ listLeft d room
-      → (r ≡ fitted (refusedLine n) v) × (u ≡ fitLeft (refusedLine n) v) → (r ≡ printed d room) × (u ≡ printLeft d room)
-  print-refusal zero e f w h = absurd (never-0 e)
-  print-refusal (suc n) e f w h =
-      let q = dump-refused (suc n) e f in
-      let same = w ∙ sym (list-refused d room (suc n) q (omega arith) .1) in
-      let o = print-line n q in
-      (rw (same, ← o) at (h .0) ∙ print-fits .0, rw (same, ← o) at (h .1) ∙ print-fits .1)
+      {r : Lent} {u v : List ℕ} (n : ℕ) → Refused n ≡ listed d room → (n ≡ 19 → ⊥) → v ≡ listLeft d room
+      → (r ≡ fittedBytes (refusedLine n) v) × (u ≡ fitLeft (refusedLine n) v) → (r ≡ printed d room) × (u ≡ printLeft d room)
+  unfolding listed listRefusal dumpRefusal printed printLeft
+  print-refusal n e f w h =
+      let g = refused-given _ _ e in
+      let q = lent-before (dumpRules d) _ (dump-given d .0) n (g .0) (ne-eqb n 19 f) .0 (g .1) in
+      let same = w ∙ sym (list-refused d room n q (g .0) .1) in
+      let o = print-line n q (g .0) in
+      (rw (same, ← o) at (h .0), rw (same, ← o) at (h .1))

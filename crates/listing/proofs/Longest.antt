@@ -7,8 +7,8 @@ use mathlib.Core.Bool.{Bool, true, false, cond, not}
 use mathlib.Core.List.{List, [], _∷_, _++_}
 use native.Mathlib.Omega.{arith}
 use lib.ListN.{length, take, drop, length-append, length-take}
-use lib.Dec.{ltb, eqb}
-use borrow.Author.Tests.{le-ltb, eqb-true}
+use lib.Dec.{eqb}
+use borrow.Author.Tests.{eqb-true}
 use Rattle.mps.specs.Words.{byte, among, each, only, cut, joined, put}
 use Rattle.mps.specs.Refusals.{refusal}
 use Rattle.mps.specs.Layout.{Entry, type, ofType, mappingType, hierarchyType, modifierType, mappingSize, linkSize, leastLength, headerSize}
@@ -18,15 +18,17 @@ use Rattle.mps.specs.Pointer.{pointer, pointerBytes, isDefault, imcrOf, tableAd
 use Rattle.mps.specs.Judge.{pointerRules, tableRules, dumpRules, dumpRefusal, tableRefusal}
 use Rattle.mps.specs.Listing.{baseLine, mapLine, treeLine, modLine, skipLine, extendedLine, pointerLine, tableLine, endLine, listing}
 use Rattle.mps.specs.Listing.{listRefusal, programOutput, printed, printLeft}
-use Rattle.mps.specs.declared.Written.{Written}
-use Rattle.mps.specs.declared.Written.the-variants.{Bytes}
+use Rattle.mps.specs.Rooms.{roomRefusal, fitted, fitLeft}
+use Rattle.mps.specs.declared.Lent.{Lent}
+use Rattle.mps.specs.declared.Lent.the-variants.{Count}
 use Rattle.laws.proofs.Tests.{whether, or-parts}
 use Rattle.laws.proofs.Refusals.{first-none, refusal-append}
+use Rattle.laws.proofs.Lent.{left-put, fits}
 use Rattle.accepted.proofs.Sound.{sound}
 use Rattle.reader.proofs.Walk.{no-extended-fault}
-use Rattle.listing.specs.Fits.{fitted, fitLeft, tableText, entriesText}
+use Rattle.listing.specs.Texts.{tableText, entriesText}
 use Rattle.listing.proofs.Most.{base-most, map-most, tree-most, mod-most, skip-most, pointer-most, table-most, end-most, default-most, refused-most}
-use Rattle.listing.proofs.Laws.{text-is, list-number, print-fits}
+use Rattle.listing.proofs.Laws.{text-is, list-none}
 
 -- ---- The lines of the base entries
 
@@ -154,7 +156,7 @@ listing-most d e =
 
 -- So the count that the call answers is no more.
 pub list-most : (d room : List ℕ) → listRefusal d room ≡ 0 → length (listing d) ≤ 65536
-list-most d room e = listing-most d (first-none (dumpRefusal d) _ (sym (list-number d room) ∙ e) .0)
+list-most d room e = listing-most d (list-none d room e)
 
 pub output-most : (d : List ℕ) → length (programOutput d) ≤ 65536
 unfolding programOutput
@@ -165,13 +167,13 @@ output-most d =
 
 -- So the program's call refuses nothing in such a room: it answers how many bytes it wrote, and they stand at the room's start.
 module _ (d room : List ℕ) where
-  roomy : 65536 ≤ length room → ltb (length room) (length (programOutput d)) ≡ false
-  roomy h = le-ltb (length room) (length (programOutput d)) (omega (arith, output-most d))
+  roomy : 65536 ≤ length room → roomRefusal (programOutput d) room ≡ 0
+  roomy h = fits (programOutput d) room (omega (arith, output-most d))
 
-  pub print-fits-always : {r : Written} → 65536 ≤ length room → r ≡ printed d room → r ≡ Bytes (length (programOutput d))
-  unfolding fitted
-  print-fits-always h e = e ∙ sym (print-fits d room .0) ∙ rw (roomy h)
+  pub print-fits-always : {r : Lent} → 65536 ≤ length room → r ≡ printed d room → r ≡ Count (length (programOutput d))
+  unfolding printed fitted
+  print-fits-always h e = e ∙ rw (roomy h)
 
   pub print-leaves-always : 65536 ≤ length room → printLeft d room ≡ put (programOutput d) room
-  unfolding fitLeft
-  print-leaves-always h = sym (print-fits d room .1) ∙ rw (roomy h)
+  unfolding printLeft fitLeft
+  print-leaves-always h = rw (roomy h) (left-put (programOutput d) room)

@@ -19,7 +19,7 @@ use Rattle.reader.specs.Walked.{Reads}
 use Rattle.reader.proofs.Walk.{Ahead, no-fault, no-extended-fault, stays-past, reads-table, reads-stop, reads-go}
 use Rattle.lines.specs.Entry.{entryLine}
 use Rattle.lines.proofs.EntryLines.{base-line, extended-line}
-use Rattle.listing.specs.Fits.{entriesText}
+use Rattle.listing.specs.Texts.{entriesText}
 
 -- ---- The lines of entries without a fault
 

@@ -7,7 +7,7 @@
 // have, that is known at once; else the listing is measured first, by arithmetic. A line that stands alone is made twice
 // by the same function: first in no room at all, which only measures it, then in the room.
 use mps::Held;
-use mps::Written;
+use mps::Lent;
 use mps::layout;
 ghost use mathlib.Core.Path.{_≡_};
 ghost use Prim.Native.Nat.{ℕ, _≤_};
@@ -17,7 +17,8 @@ ghost use Rattle.mps.specs.Judge.{tableRefusal};
 ghost use Rattle.mps.specs.Listing.{listed, listLeft, printed, printLeft, defaultLine, refusedLine};
 ghost use Rattle.lines.specs.Wrote.{Wrote};
 ghost use Rattle.lines.specs.Entry.{entryLine};
-ghost use Rattle.listing.specs.Fits.{fitted, fitLeft, tableText, frameLength, entriesText};
+ghost use Rattle.mps.specs.Rooms.{fittedBytes, fitLeft};
+ghost use Rattle.listing.specs.Texts.{tableText, frameLength, entriesText};
 
 // "answer longer than the lent room"
 const TOO_LONG: u8 = 19;
@@ -116,63 +117,63 @@ fn bound(t: &[u8]) -> usize
 }
 
 // A room that holds the longest is enough without measuring.
-fn list_table(t: &[u8], pointer: u32, imcr: u8, address: u32, out: &mut [u8]) -> Written
+fn list_table(t: &[u8], pointer: u32, imcr: u8, address: u32, out: &mut [u8]) -> Lent
     requires { ⌜ tableRefusal (now t) ≡ 0 ⌝ }
-    ensures { λ r. ⌜ r ≡ fitted (tableText pointer imcr address (now (t .entry))) (now (out .entry)) ⌝ }
+    ensures { λ r. ⌜ r ≡ fittedBytes (tableText pointer imcr address (now (t .entry))) (now (out .entry)) ⌝ }
     ensures { λ _. ⌜ now (out .exit) ≡ fitLeft (tableText pointer imcr address (now (t .entry))) (now (out .entry)) ⌝ }
 {
     if bound(t) <= out.len() {
-        return Written::Bytes(put_table(out, t, pointer, imcr, address));
+        return Lent::Count(put_table(out, t, pointer, imcr, address));
     }
     list_measured(t, pointer, imcr, address, out)
 }
 
 // Elsewhere it is measured.
-fn list_measured(t: &[u8], pointer: u32, imcr: u8, address: u32, out: &mut [u8]) -> Written
+fn list_measured(t: &[u8], pointer: u32, imcr: u8, address: u32, out: &mut [u8]) -> Lent
     requires { ⌜ tableRefusal (now t) ≡ 0 ⌝ }
-    ensures { λ r. ⌜ r ≡ fitted (tableText pointer imcr address (now (t .entry))) (now (out .entry)) ⌝ }
+    ensures { λ r. ⌜ r ≡ fittedBytes (tableText pointer imcr address (now (t .entry))) (now (out .entry)) ⌝ }
     ensures { λ _. ⌜ now (out .exit) ≡ fitLeft (tableText pointer imcr address (now (t .entry))) (now (out .entry)) ⌝ }
 {
     let size = table_width(t, imcr);
     if out.len() < size {
-        return Written::Refused(TOO_LONG);
+        return Lent::Refused(TOO_LONG);
     }
     put_table(out, t, pointer, imcr, address);
-    Written::Bytes(size)
+    Lent::Count(size)
 }
 
-fn list_default(number: u8, imcr: u8, out: &mut [u8]) -> Written
-    ensures { λ r. ⌜ r ≡ fitted (defaultLine number imcr) (now (out .entry)) ⌝ }
+fn list_default(number: u8, imcr: u8, out: &mut [u8]) -> Lent
+    ensures { λ r. ⌜ r ≡ fittedBytes (defaultLine number imcr) (now (out .entry)) ⌝ }
     ensures { λ _. ⌜ now (out .exit) ≡ fitLeft (defaultLine number imcr) (now (out .entry)) ⌝ }
 {
     let size = lines::frame::default(&mut out[..0], 0, number, imcr);
     if out.len() < size {
-        return Written::Refused(TOO_LONG);
+        return Lent::Refused(TOO_LONG);
     }
     lines::frame::default(out, 0, number, imcr);
-    Written::Bytes(size)
+    Lent::Count(size)
 }
 
-fn print_refused(number: u8, out: &mut [u8]) -> Written
-    ensures { λ r. ⌜ r ≡ fitted (refusedLine number) (now (out .entry)) ⌝ }
+fn print_refused(number: u8, out: &mut [u8]) -> Lent
+    ensures { λ r. ⌜ r ≡ fittedBytes (refusedLine number) (now (out .entry)) ⌝ }
     ensures { λ _. ⌜ now (out .exit) ≡ fitLeft (refusedLine number) (now (out .entry)) ⌝ }
 {
     let width = lines::frame::refused(&mut out[..0], 0, number);
     if out.len() < width {
-        return Written::Refused(TOO_LONG);
+        return Lent::Refused(TOO_LONG);
     }
     lines::frame::refused(out, 0, number);
-    Written::Bytes(width)
+    Lent::Count(width)
 }
 
 // How many bytes of the listing stand in the room, or the number of the refusal, 1 to 19.
-pub fn list(d: &[u8], out: &mut [u8]) -> Written
+pub fn list(d: &[u8], out: &mut [u8]) -> Lent
     ensures { λ r. ⌜ r ≡ listed (now (d .entry)) (now (out .entry)) ⌝ }
     ensures { λ _. ⌜ now (out .exit) ≡ listLeft (now (d .entry)) (now (out .entry)) ⌝ }
 {
     let found = dump::read(d);
     match found {
-        Held::Refused(n) => Written::Refused(n),
+        Held::Refused(n) => Lent::Refused(n),
         Held::Default { number, imcr } => list_default(number, imcr, out),
         Held::Table {
             pointer,
@@ -185,16 +186,16 @@ pub fn list(d: &[u8], out: &mut [u8]) -> Written
 }
 
 // All that the listing program writes: the listing, or the line of the refusal.
-pub fn print(d: &[u8], out: &mut [u8]) -> Written
+pub fn print(d: &[u8], out: &mut [u8]) -> Lent
     ensures { λ r. ⌜ r ≡ printed (now (d .entry)) (now (out .entry)) ⌝ }
     ensures { λ _. ⌜ now (out .exit) ≡ printLeft (now (d .entry)) (now (out .entry)) ⌝ }
 {
     let answer = list(d, out);
     match answer {
-        Written::Bytes(n) => Written::Bytes(n),
-        Written::Refused(n) => {
+        Lent::Count(n) => Lent::Count(n),
+        Lent::Refused(n) => {
             if n == TOO_LONG {
-                return Written::Refused(TOO_LONG);
+                return Lent::Refused(TOO_LONG);
             }
             print_refused(n, out)
         }

@@ -7,10 +7,10 @@ use lib.ListN.{length, take, drop, getD, length-append}
 use lib.Seq.{length-take-le, take-at}
 use borrow.Rule.Slice.PartMut.{putMid, postOf}
 use Rattle.io.specs.Counts.{Counts}
-use Rattle.mps.specs.Answers.{writtenNumbers}
+use Rattle.mps.specs.Answers.{lentNumbers}
 use Rattle.mps.specs.Listing.{programOutput, printed, printLeft}
-use Rattle.mps.specs.declared.Written.{Written}
-use Rattle.mps.specs.declared.Written.the-variants.{Bytes, Refused}
+use Rattle.mps.specs.declared.Lent.{Lent}
+use Rattle.mps.specs.declared.Lent.the-variants.{Count, Refused}
 use Rattle.listing.proofs.Longest.{print-fits-always, print-leaves-always}
 use Rattle.mplist.specs.Input.{Within}
 use Rattle.mplist.specs.declared.Input.{Input}
@@ -32,17 +32,17 @@ came-within s w e = subst (Within s) e w
 
 -- ---- What is written
 
-module _ (d room : List ℕ) (h : 65536 ≤ length room) {r : Written} (e : r ≡ printed d room) where
+module _ (d room : List ℕ) (h : 65536 ≤ length room) {r : Lent} (e : r ≡ printed d room) where
   pub all-written :
-      (u : List ℕ) {n : ℕ} → u ≡ printLeft d room → r ≡ Bytes n
+      (u : List ℕ) {n : ℕ} → u ≡ printLeft d room → r ≡ Count n
       → (n ≡ length (programOutput d)) × (n ≤ length u) × (take n u ≡ programOutput d)
   all-written u {n} k b =
       let w = programOutput d in
       let rest = drop (length w) room in
-      let m : n ≡ length w = ap (λ (a : Written). getD (writtenNumbers a) 1 0) (sym b ∙ print-fits-always d room h e) in
+      let m : n ≡ length w = ap (λ (a : Lent). getD (lentNumbers a) 1 0) (sym b ∙ print-fits-always d room h e) in
       let v : u ≡ w ++ rest = k ∙ print-leaves-always d room h in
       (m, rw v (omega (arith, m, length-append w rest)), rw v (take-at w rest n (sym m)))
 
   -- A refusal has one number, a count two.
   pub never-refused : {n : ℕ} → r ≡ Refused n → ⊥
-  never-refused b = omega (arith, ap (λ (a : Written). length (writtenNumbers a)) (sym b ∙ print-fits-always d room h e))
+  never-refused b = omega (arith, ap (λ (a : Lent). length (lentNumbers a)) (sym b ∙ print-fits-always d room h e))

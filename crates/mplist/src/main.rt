@@ -12,7 +12,7 @@
 use libc::STDERR_FILENO;
 use libc::STDIN_FILENO;
 use libc::STDOUT_FILENO;
-use mps::Written;
+use mps::Lent;
 ghost use mathlib.Core.Path.{_≡_};
 ghost use Prim.Native.Nat.{_≤_};
 ghost use lib.ListN.{length, take};
@@ -68,8 +68,8 @@ fn answer(d: &[u8], room: &mut [u8]) -> usize
 {
     let printed = listing::print(d, room);
     match printed {
-        Written::Bytes(n) => n,
-        Written::Refused(_) => 0,
+        Lent::Count(n) => n,
+        Lent::Refused(_) => 0,
     }
 }
 

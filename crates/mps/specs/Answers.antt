@@ -13,12 +13,10 @@ use Rattle.mps.specs.declared.Examined.{Examined}
 use Rattle.mps.specs.declared.Examined.the-variants.{Accepted as Examined·Accepted, Refused as Examined·Refused}
 use Rattle.mps.specs.declared.Held.{Held}
 use Rattle.mps.specs.declared.Held.the-variants.{Default, Table, Refused as Held·Refused}
-use Rattle.mps.specs.declared.Written.{Written}
-use Rattle.mps.specs.declared.Written.the-variants.{Bytes, Refused as Written·Refused}
+use Rattle.mps.specs.declared.Lent.{Lent}
+use Rattle.mps.specs.declared.Lent.the-variants.{Count, Refused as Lent·Refused}
 use Rattle.mps.specs.declared.Parted.{Parted}
 use Rattle.mps.specs.declared.Parted.the-variants.{Parts, Refused as Parted·Refused}
-use Rattle.mps.specs.declared.Routed.{Routed}
-use Rattle.mps.specs.declared.Routed.the-variants.{Pairs, Refused as Routed·Refused}
 use Rattle.mps.specs.declared.Seen.{Seen}
 use Rattle.mps.specs.declared.Seen.the-variants.{No, Yes, Undeclared, Refused as Seen·Refused}
 use Rattle.mps.specs.declared.Edited.{Edited}
@@ -44,17 +42,13 @@ heldNumbers (Default number imcr) = 0 ∷ number ∷ imcr ∷ []
 heldNumbers (Table pointer imcr address start end) = 0 ∷ pointer ∷ imcr ∷ address ∷ start ∷ end ∷ []
 heldNumbers (Held·Refused n) = n ∷ []
 
-abbrev pub writtenNumbers : Written → List ℕ
-writtenNumbers (Bytes count) = 0 ∷ count ∷ []
-writtenNumbers (Written·Refused n) = n ∷ []
+abbrev pub lentNumbers : Lent → List ℕ
+lentNumbers (Count count) = 0 ∷ count ∷ []
+lentNumbers (Lent·Refused n) = n ∷ []
 
 abbrev pub partedNumbers : Parted → List ℕ
 partedNumbers (Parts base end) = 0 ∷ base ∷ end ∷ []
 partedNumbers (Parted·Refused n) = n ∷ []
-
-abbrev pub routedNumbers : Routed → List ℕ
-routedNumbers (Pairs count) = 0 ∷ count ∷ []
-routedNumbers (Routed·Refused n) = n ∷ []
 
 -- The paper names the three answers and gives them no numbers: no is 0, yes is 1, undeclared is 2. Then the links climbed.
 abbrev pub seenNumbers : Seen → List ℕ
@@ -95,17 +89,13 @@ abbrev pub heldOf : ℕ → Held → Held
 heldOf zero held = held
 heldOf (suc n) held = Held·Refused (suc n)
 
-abbrev pub writtenOf : ℕ → ℕ → Written
-writtenOf zero count = Bytes count
-writtenOf (suc n) count = Written·Refused (suc n)
+abbrev pub lentOf : ℕ → ℕ → Lent
+lentOf zero count = Count count
+lentOf (suc n) count = Lent·Refused (suc n)
 
 abbrev pub partedOf : ℕ → Parted → Parted
 partedOf zero parts = parts
 partedOf (suc n) parts = Parted·Refused (suc n)
-
-abbrev pub routedOf : ℕ → ℕ → Routed
-routedOf zero count = Pairs count
-routedOf (suc n) count = Routed·Refused (suc n)
 
 abbrev pub seenOf : ℕ → Seen → Seen
 seenOf zero seen = seen

@@ -1,6 +1,7 @@
 pub mod Words
 pub mod Refusals
 pub mod Answers
+pub mod Rooms
 pub mod Sums
 pub mod Numbers
 pub mod Layout

@@ -4,8 +4,7 @@ use mathlib.Core.Bool.{Bool, cond, not}
 use mathlib.Core.List.{List, [], _∷_, _++_}
 use lib.ListN.{length}
 use lib.Dec.{ltb, eqb}
-use Rattle.mps.specs.Words.{text, flag, keep, joined, put}
-use Rattle.mps.specs.Refusals.{_when_, refusal, roomNumber}
+use Rattle.mps.specs.Words.{text, flag, keep, joined}
 use Rattle.mps.specs.Layout.{Entry, type, ofType, processorType, busType, ioApicType, ioInterruptType, mappingType, hierarchyType, modifierType}
 use Rattle.mps.specs.Layout.{feature1, baseLength, extendedLength, entryCount, baseEntries, extendedEntries, extendedEntryLength}
 use Rattle.mps.specs.Layout.{idOf, version, enabled, bootstrap, nameOf, addressOf}
@@ -13,8 +12,9 @@ use Rattle.mps.specs.Layout.{interruptType, sourceBus, sourceIrq, polari
 use Rattle.mps.specs.Layout.{extendedBus, spaceKind, spaceBase, spaceLength, parentBus, subtractiveBit, takesBit, rangeList}
 use Rattle.mps.specs.Pointer.{pointer, pointerBytes, isDefault, imcrOf, tableAddress, tableIn}
 use Rattle.mps.specs.Judge.{dumpRules, dumpRefusal}
-use Rattle.mps.specs.Answers.{writtenOf}
-use Rattle.mps.specs.declared.Written.{Written}
+use Rattle.mps.specs.Answers.{lentOf}
+use Rattle.mps.specs.Rooms.{tooSmall, lentRefusal, lentLeft, fittedBytes, fitLeft}
+use Rattle.mps.specs.declared.Lent.{Lent}
 
 -- ---- Numbers
 
@@ -187,23 +187,19 @@ programOutput d = cond (eqb (dumpRefusal d) 0) (listing d) (refusedLine (dumpRef
 -- ---- The call: "the listing tests 1 to 18, then 19"
 
 unfoldable pub listRefusal : List ℕ → List ℕ → ℕ
-listRefusal d room = refusal (dumpRules d ++ (roomNumber when ltb (length room) (length (listing d)) ∷ []))
+listRefusal d room = lentRefusal (dumpRules d) (tooSmall (length (listing d)) room)
 
 -- How many bytes stand in the room.
-unfoldable pub listed : List ℕ → List ℕ → Written
-listed d room = writtenOf (listRefusal d room) (length (listing d))
+unfoldable pub listed : List ℕ → List ℕ → Lent
+listed d room = lentOf (listRefusal d room) (length (listing d))
 
--- What the call leaves in its room: nothing new at a refusal.
 unfoldable pub listLeft : List ℕ → List ℕ → List ℕ
-listLeft d room = cond (eqb (listRefusal d room) 0) (put (listing d) room) room
+listLeft d room = lentLeft (listRefusal d room) (listing d) room
 
 -- ---- The listing program's call: the same for all that it writes, so that only a room too small is refused
 
-unfoldable pub printRefusal : List ℕ → List ℕ → ℕ
-printRefusal d room = refusal (roomNumber when ltb (length room) (length (programOutput d)) ∷ [])
-
-unfoldable pub printed : List ℕ → List ℕ → Written
-printed d room = writtenOf (printRefusal d room) (length (programOutput d))
+unfoldable pub printed : List ℕ → List ℕ → Lent
+printed d room = fittedBytes (programOutput d) room
 
 unfoldable pub printLeft : List ℕ → List ℕ → List ℕ
-printLeft d room = cond (eqb (printRefusal d room) 0) (put (programOutput d) room) room
+printLeft d room = fitLeft (programOutput d) room

@@ -4,18 +4,19 @@ use mathlib.Core.Bool.{cond}
 use mathlib.Core.List.{List, [], _∷_, _++_}
 use lib.ListN.{length, replicate}
 use lib.Dec.{ltb, eqb}
-use Rattle.mps.specs.Words.{text, cut, exactly, put, first}
-use Rattle.mps.specs.Refusals.{_when_, refusal, baseNumber, extendedNumber, roomNumber}
+use Rattle.mps.specs.Words.{text, cut, exactly, first}
+use Rattle.mps.specs.Refusals.{Rule, _when_, baseNumber, extendedNumber}
 use Rattle.mps.specs.Sums.{sum256, toStore}
 use Rattle.mps.specs.Numbers.{bytes}
 use Rattle.mps.specs.Layout.{specRevision, partMost, headerSize, baseEntryLength, baseLength, extendedEnd, basePart, extendedPart}
 use Rattle.mps.specs.Layout.{oemId, productOf, oemPointer, oemSize, localApic, reserved43}
 use Rattle.mps.specs.Judge.{tableRefusal}
-use Rattle.mps.specs.Answers.{writtenOf, partedOf}
+use Rattle.mps.specs.Answers.{lentOf, partedOf}
+use Rattle.mps.specs.Rooms.{tooSmall, lentRefusal, lentLeft}
 use Rattle.mps.specs.declared.Fields.{Fields}
 use Rattle.mps.specs.declared.Parted.{Parted}
 use Rattle.mps.specs.declared.Parted.the-variants.{Parts as Parted·Parts}
-use Rattle.mps.specs.declared.Written.{Written}
+use Rattle.mps.specs.declared.Lent.{Lent}
 
 -- "header fields (OEM ID, product, OEM pointer and size, local APIC address, byte 43), base entries and extended entries,
 -- both as bytes". `Fields` is the struct of src/lib.rt: eight bytes, twelve bytes, numbers.
@@ -77,25 +78,23 @@ imageSize p = baseSize p + length (p .extended)
 -- ---- The call
 
 -- "It refuses 7 if the base would pass 4,096, 13 if the extended part would, then 19, all unwritten".
+unfoldable pub partRules : Parts → List Rule
+partRules p = baseNumber when ltb partMost (baseSize p) ∷ extendedNumber when ltb partMost (length (p .extended)) ∷ []
+
 unfoldable pub earlyRefusal : Parts → List ℕ → ℕ
-earlyRefusal p room =
-    refusal
-    (baseNumber when ltb partMost (baseSize p)
-    ∷ extendedNumber when ltb partMost (length (p .extended))
-    ∷ roomNumber when ltb (length room) (imageSize p)
-    ∷ [])
+earlyRefusal p room = lentRefusal (partRules p) (tooSmall (imageSize p) room)
 
 -- ".. then the finished image is judged"
 unfoldable pub writeRefusal : Parts → List ℕ → ℕ
 writeRefusal p room = first (earlyRefusal p room) (tableRefusal (image p))
 
 -- How many bytes stand in the room.
-unfoldable pub written : Parts → List ℕ → Written
-written p room = writtenOf (writeRefusal p room) (imageSize p)
+unfoldable pub written : Parts → List ℕ → Lent
+written p room = lentOf (writeRefusal p room) (imageSize p)
 
 -- ".. and a refusal leaves its bytes zero and the rest unchanged."
+unfoldable pub finished : Parts → List ℕ
+finished p = cond (eqb (tableRefusal (image p)) 0) (image p) (replicate (imageSize p) 0)
+
 unfoldable pub writeLeft : Parts → List ℕ → List ℕ
-writeLeft p room =
-    cond (eqb (earlyRefusal p room) 0)
-    (cond (eqb (tableRefusal (image p)) 0) (put (image p) room) (put (replicate (imageSize p) 0) room))
-    room
+writeLeft p room = lentLeft (earlyRefusal p room) (finished p) room

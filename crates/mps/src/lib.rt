@@ -60,9 +60,10 @@ pub enum Held {
     Refused(u8),
 }
 
-// What stands in a lent room: so many bytes of a listing or of a new table, or the number of the refusal.
-pub enum Written {
-    Bytes(usize),
+// The answer of a call that is lent a room: how many stand in it, bytes of a listing or of a new table, or pairs of a route;
+// or the number of the refusal. What the room then holds is said in specs/Rooms.antt.
+pub enum Lent {
+    Count(usize),
     Refused(u8),
 }
 
@@ -82,12 +83,6 @@ pub struct Fields {
 // function that answers an enum with an array in it is not proved by the toolchain today.
 pub enum Parted {
     Parts { base: usize, end: usize },
-    Refused(u8),
-}
-
-// What a route query found: so many pairs of two bytes in the lent room.
-pub enum Routed {
-    Pairs(usize),
     Refused(u8),
 }
 

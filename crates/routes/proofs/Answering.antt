@@ -13,16 +13,18 @@ use Rattle.mps.specs.Layout.{Entry, ofType, ioInterruptType, localInterruptType
 use Rattle.mps.specs.Rules.{isListed}
 use Rattle.mps.specs.Sections.{rows}
 use Rattle.mps.specs.Judge.{tableRefusal, examined}
-use Rattle.mps.specs.Routes.{asked, pairSize, routesOf, wrongLine, routed, routesLeft}
+use Rattle.mps.specs.Rooms.{fitLeft}
+use Rattle.mps.specs.Routes.{Question, question, asked, pairSize, routesOf, wrongLine, routed, routesLeft}
 use Rattle.mps.specs.declared.Sections.{Sections}
 use Rattle.mps.specs.declared.Examined.{Examined}
 use Rattle.mps.specs.declared.Examined.the-variants.{Refused as Examined·Refused}
-use Rattle.mps.specs.declared.Routed.{Routed}
-use Rattle.mps.specs.declared.Routed.the-variants.{Pairs, Refused}
+use Rattle.mps.specs.declared.Lent.{Lent}
+use Rattle.mps.specs.declared.Lent.the-variants.{Count, Refused}
 use Rattle.laws.proofs.Small.{Bytes, small-keep, small-rows, below-each}
 use Rattle.laws.proofs.Pigeons.{bytes-most}
 use Rattle.laws.proofs.Stores.{sets-at-start}
 use Rattle.laws.proofs.Parts.{length-part}
+use Rattle.laws.proofs.Lent.{fit-put, fit-short}
 use Rattle.laws.proofs.Rows.{rows-count}
 use Rattle.laws.proofs.Lists.{keep-most}
 use Rattle.laws.proofs.Cut.{cut-most}
@@ -30,9 +32,9 @@ use Rattle.sets.specs.Sets.{putAll, noNumbers}
 use Rattle.judge.specs.Placed.{Placed}
 use Rattle.judge.proofs.Laws.{refused-number, refused-some, placed-listed}
 use Rattle.accepted.proofs.Sound.{sound}
-use Rattle.routes.specs.Pairs.{sideOf, enabledIn, gathered, pairsIn, countIn, answered, answerLeft}
+use Rattle.routes.specs.Pairs.{sideOf, enabledIn, gathered, pairsIn, countIn, paired}
 use Rattle.routes.specs.declared.Enabled.{Enabled}
-use Rattle.routes.proofs.Laws.{pairs-count, io-apart, local-apart, io-routes, local-routes, routed-refused, left-refused, routed-24, left-24, routed-answered, left-answered}
+use Rattle.routes.proofs.Laws.{pairs-count, io-apart, local-apart, io-routes, local-routes, table-refused, line-refused, line-answered}
 
 -- ---- One side
 
@@ -59,8 +61,8 @@ module _ (places ids : List ℕ) (h : length ids ≤ length places) {g : Enabled
   ids-known = rw ids-read (ap (λ (x : Enabled). x .set) e, h)
 
 -- What answers with pairs, or for want of room with 19, and what is left in the room.
-abbrev pub Gives : List ℕ → List ℕ → Routed → List ℕ → Type 0
-Gives pairs room r u = (r ≡ answered pairs room) × (u ≡ answerLeft pairs room)
+abbrev pub Gives : List ℕ → List ℕ → Lent → List ℕ → Type 0
+Gives pairs room r u = (r ≡ paired pairs room) × (u ≡ fitLeft pairs room)
 
 -- The IDs as they were read, and how many pairs were counted.
 module _ (ids : List ℕ) (p : Entry → Bool) (es : List Entry) (room : List ℕ) {read : List ℕ} (same : read ≡ ids)
@@ -69,36 +71,28 @@ module _ (ids : List ℕ) (p : Entry → Bool) (es : List Entry) (room : List �
   size = pairs-count ids p es ∙ ap (λ (k : ℕ). k * pairSize) (sym (rw same at e))
 
   pub answer-short : length room < n * pairSize → Gives (pairsIn ids p es) room (Refused roomNumber) room
-  unfolding answered answerLeft
-  answer-short h =
-      let l = lt-ltb (length room) (length (pairsIn ids p es)) (rw size h) in
-      (rw l, rw l)
+  answer-short h = let w = pairsIn ids p es in fit-short w (length w / pairSize) room (rw size h)
 
   module _ (h : n * pairSize ≤ length room) where
     pub answer-room : length (pairsIn read p es) ≤ length room
     answer-room = rw same (rw size h)
 
-    pub answer-put : {u : List ℕ} → u ≡ sets room 0 (pairsIn read p es) → Gives (pairsIn ids p es) room (Pairs n) u
-    unfolding answered answerLeft
+    pub answer-put : {u : List ℕ} → u ≡ sets room 0 (pairsIn read p es) → Gives (pairsIn ids p es) room (Count n) u
     answer-put q =
-        let l = le-ltb (length room) (length (pairsIn ids p es)) (rw size h) in
-        let half : n * pairSize / pairSize ≡ n = omega arith in
-        (rw (l, size, half), rw l (rw same at q ∙ sets-at-start room (pairsIn ids p es) (rw size h)))
+        let w = pairsIn ids p es in
+        let half : n ≡ length w / pairSize = omega (arith, size) in
+        fit-put w (length w / pairSize) room half (rw size h) (rw same at q)
 
 -- ---- The query
 
 -- What answers it, and what is left in the room.
-abbrev pub Answers : Bool → List ℕ → ℕ → ℕ → ℕ → List ℕ → Routed → List ℕ → Type 0
-Answers local t itype bus irq room r u =
-    (r ≡ routed (sideOf local) t itype bus irq room) × (u ≡ routesLeft (sideOf local) t itype bus irq room)
+abbrev pub Answers : Question → List ℕ → List ℕ → Lent → List ℕ → Type 0
+Answers q t room r u = (r ≡ routed q t room) × (u ≡ routesLeft q t room)
 
 -- A refused table.
-pub table-refused : (local : Bool) (t : List ℕ) (itype bus irq : ℕ) (room : List ℕ) {found : Examined} {n : ℕ}
-    → found ≡ examined t → found ≡ Examined·Refused n → Answers local t itype bus irq room (Refused n) room
-table-refused local t itype bus irq room {found} {n} e q =
-    let k = refused-number t e q in
-    let z = refused-some t e q in
-    (routed-refused (sideOf local) t itype bus irq room n k z, left-refused (sideOf local) t itype bus irq room (λ h. z (k ∙ h)))
+pub examined-refused : (q : Question) (t room : List ℕ) {found : Examined} {n : ℕ}
+    → found ≡ examined t → found ≡ Examined·Refused n → Answers q t room (Refused n) room
+examined-refused q t room e k = table-refused q t room (refused-number t e k) (refused-some t e k)
 
 -- The interrupt entries of an accepted one are few: one entry takes a byte at least.
 entries-few : (t : List ℕ) → tableRefusal t ≡ 0 → (n : ℕ) (s : List ℕ) → keep (ofType n) (baseEntries t) ≡ rows entrySize s → length s ≤ 65535
@@ -127,43 +121,39 @@ module _ (t : List ℕ) (p : Sections) (a : tableRefusal t ≡ 0) (placed : Plac
   local-ready = (omega arith, local-apart t p placed a, entries-few t a localInterruptType _ (placed .locals))
 
   module _ (local : Bool) (itype bus irq : ℕ) (room : List ℕ) where
+    abbrev q : Question
+    q = question (sideOf local) itype bus irq
+
     -- The answer of a side.
-    module _ {r : Routed} {u : List ℕ} where
+    module _ {r : Lent} {u : List ℕ} where
       pub io-gives : local ≡ false
           → Gives (pairsIn (enabledIn entrySize (part (p .ioapics) (p .interrupts) t)) (asked itype bus irq) (rows entrySize (part (p .interrupts) (p .locals) t))) room r u
-          → Gives (routesOf (sideOf local) t itype bus irq) room r u
+          → Gives (routesOf q t) room r u
       io-gives l g = rw (l, io-routes t p placed a itype bus irq) g
 
       pub local-gives : local ≡ true
           → Gives (pairsIn (enabledIn processorSize (part headerSize (p .buses) t)) (asked itype bus irq) (rows entrySize (part (p .locals) (p .mappings) t))) room r u
-          → Gives (routesOf (sideOf local) t itype bus irq) room r u
+          → Gives (routesOf q t) room r u
       local-gives l g = rw (l, local-routes t p placed a itype bus irq) g
 
     -- 24.
-    wrong : wrongLine t itype bus ≡ true → Answers local t itype bus irq room (Refused queryNumber) room
-    wrong q = (routed-24 (sideOf local) t itype bus irq room a q, left-24 (sideOf local) t itype bus irq room a q)
-
-    pub wrong-type : interruptTypeMost < itype → Answers local t itype bus irq room (Refused queryNumber) room
+    pub wrong-type : interruptTypeMost < itype → Answers q t room (Refused queryNumber) room
     unfolding wrongLine
-    wrong-type h = wrong (rw (lt-ltb interruptTypeMost itype h) (or-true (not (isListed (baseEntries t) bus))))
+    wrong-type h = line-refused q t room a (rw (lt-ltb interruptTypeMost itype h) (or-true (not (isListed (baseEntries t) bus))))
 
     module _ {found : Bool} (e : found ≡ among bus (each idOf (rows entrySize (part (p .buses) (p .ioapics) t)))) where
       listed : isListed (baseEntries t) bus ≡ found
       listed = placed-listed t p placed bus ∙ sym e
 
-      pub wrong-bus : not found ≡ true → Answers local t itype bus irq room (Refused queryNumber) room
+      pub wrong-bus : not found ≡ true → Answers q t room (Refused queryNumber) room
       unfolding wrongLine
-      wrong-bus h = wrong (rw (listed, h))
+      wrong-bus h = line-refused q t room a (rw (listed, h))
 
-      right : not found ≡ false → itype ≤ interruptTypeMost → wrongLine t itype bus ≡ false
+      right : not found ≡ false → itype ≤ interruptTypeMost → wrongLine q t ≡ false
       unfolding wrongLine
       right h i = rw (listed, h, le-ltb interruptTypeMost itype i)
 
       pub right-answers :
           not found ≡ false → itype ≤ interruptTypeMost
-          → {r : Routed} {u : List ℕ} → Gives (routesOf (sideOf local) t itype bus irq) room r u → Answers local t itype bus irq room r u
-      right-answers h i g =
-          let q = right h i in (
-            g .0 ∙ routed-answered (sideOf local) t itype bus irq room a q,
-            g .1 ∙ left-answered (sideOf local) t itype bus irq room a q,
-          )
+          → {r : Lent} {u : List ℕ} → Gives (routesOf q t) room r u → Answers q t room r u
+      right-answers h i g = let k = line-answered q t room a (right h i) in (g .0 ∙ k .0, g .1 ∙ k .1)

@@ -1,30 +1,31 @@
 -- What an accepted table's routes are, by the IDs of its enabled APICs. Assumes nothing.
-use Prim.Native.Nat.{ℕ, zero, suc, _*_}
-use mathlib.Core.Path.{_≡_, refl, ap, _∙_}
+use Prim.Native.Nat.{ℕ, _*_}
+use mathlib.Core.Path.{_≡_, refl, ap, sym, _∙_}
 use mathlib.Core.Bool.{Bool, true, false}
 use mathlib.Core.List.{List, [], _∷_}
 use native.Mathlib.Omega.{arith}
 use lib.ListN.{length, length-append}
 use lib.Dec.{eqb}
-use borrow.Author.Tests.{eqb-true, ne-eqb}
+use borrow.Author.Tests.{eqb-true}
 use Rattle.mps.specs.Words.{keep, each, joined, among, only, first, twice, part}
 use Rattle.mps.specs.Sums.{total}
-use Rattle.mps.specs.Refusals.{Rule, _when_, refusal, roomNumber, queryNumber}
-use Rattle.mps.specs.Answers.{routedOf}
+use Rattle.mps.specs.Refusals.{_when_, refusal, queryNumber}
+use Rattle.mps.specs.Rooms.{tooSmall, fitted, fitLeft}
 use Rattle.mps.specs.Layout.{Entry, ofType, headerSize, processorSize, entrySize, idOf, enabled, destination, everyone, baseEntries}
 use Rattle.mps.specs.Rules.{ioSide, localSide, Side, enabledOf, enabledIds}
 use Rattle.mps.specs.Sections.{rows}
 use Rattle.mps.specs.Judge.{tableRules, tableRefusal}
-use Rattle.mps.specs.Routes.{asked, matches, names, pair, pairSize, pairsTo, routes, routesOf, wrongLine, roomTooSmall, routeRules, routeRefusal, routed, routesLeft}
+use Rattle.mps.specs.Routes.{Question, question, asked, matches, names, pair, pairSize, pairsTo, routes, routesOf, wrongLine, lineRules, routeRefusal, routed, routesLeft}
 use Rattle.mps.specs.declared.Sections.{Sections}
-use Rattle.mps.specs.declared.Routed.the-variants.{Refused}
+use Rattle.mps.specs.declared.Lent.the-variants.{Refused}
 use Rattle.laws.proofs.Tests.{whether, or-parts}
-use Rattle.laws.proofs.Refusals.{first-some, refusal-append, refusal-stop, refusal-go}
+use Rattle.laws.proofs.Refusals.{number, first-some, first-none, refusal-append, refusal-stop, refusal-go, refusal-end}
+use Rattle.laws.proofs.Lent.{lent-early, lent-none, left-kept, lent-refused, fit-late}
 use Rattle.laws.proofs.Lists.{keep-keep}
 use Rattle.laws.proofs.Joined.{joined-same}
 use Rattle.judge.specs.Placed.{Placed}
 use Rattle.accepted.proofs.Obeyed.{obeyed}
-use Rattle.routes.specs.Pairs.{enabledIn, named, pairsFor, pairsIn, countIn, answered, answerLeft}
+use Rattle.routes.specs.Pairs.{enabledIn, named, pairsFor, pairsIn, countIn, paired}
 
 -- ---- Names: of APICs of which no two have one ID, an entry names all, one, or none
 
@@ -78,10 +79,10 @@ pairs-count ids p es = length-joined ids (keep p es)
 -- ---- The routes of a table, between its places
 
 -- The entries of a side that are asked about.
-matched : (side : Side) (itype bus irq : ℕ) (es : List Entry)
-    → keep (asked itype bus irq) (keep (ofType (side .interrupts)) es) ≡ keep (matches side itype bus irq) es
+matched : (q : Question) (es : List Entry)
+    → keep (asked (q .itype) (q .bus) (q .irq)) (keep (ofType (q .side .interrupts)) es) ≡ keep (matches q) es
 unfolding matches
-matched side itype bus irq es = keep-keep (asked itype bus irq) (ofType (side .interrupts)) es
+matched q es = keep-keep (asked (q .itype) (q .bus) (q .irq)) (ofType (q .side .interrupts)) es
 
 -- The targets of a side stand in one part of the table, and its interrupts in another.
 module _ (t : List ℕ) (side : Side) (n : ℕ) (s : List ℕ) (targets : keep (ofType (side .targets)) (baseEntries t) ≡ rows n s)
@@ -91,12 +92,13 @@ module _ (t : List ℕ) (side : Side) (n : ℕ) (s : List ℕ) (targets : keep (
   side-apart = rw (← targets) apart
 
   side-routes : (u : List ℕ) → keep (ofType (side .interrupts)) (baseEntries t) ≡ rows entrySize u → (itype bus irq : ℕ)
-      → routesOf side t itype bus irq ≡ pairsIn (enabledIn n s) (asked itype bus irq) (rows entrySize u)
+      → routesOf (question side itype bus irq) t ≡ pairsIn (enabledIn n s) (asked itype bus irq) (rows entrySize u)
   unfolding routesOf routes pairsIn enabledIn enabledIds enabledOf pairsTo pairsFor
   side-routes u interrupts itype bus irq =
-      rw (← interrupts, ← targets, matched side itype bus irq (baseEntries t))
+      let q = question side itype bus irq in
+      rw (← interrupts, ← targets, matched q (baseEntries t))
       (joined-same _ _ (λ e. ap (joined (pair e)) (named-ids e (keep enabled (keep (ofType (side .targets)) (baseEntries t))) apart))
-      (keep (matches side itype bus irq) (baseEntries t)))
+      (keep (matches q) (baseEntries t)))
 
 module _ (t : List ℕ) (p : Sections) (placed : Placed t p) (a : tableRefusal t ≡ 0) where
   pub io-apart : twice (enabledIn entrySize (part (p .ioapics) (p .interrupts) t)) ≡ false
@@ -106,73 +108,52 @@ module _ (t : List ℕ) (p : Sections) (placed : Placed t p) (a : tableRefusal t
   local-apart = side-apart t localSide processorSize _ (placed .processors) (obeyed t a .processors)
 
   pub io-routes : (itype bus irq : ℕ)
-      → routesOf ioSide t itype bus irq
+      → routesOf (question ioSide itype bus irq) t
       ≡ pairsIn (enabledIn entrySize (part (p .ioapics) (p .interrupts) t)) (asked itype bus irq) (rows entrySize (part (p .interrupts) (p .locals) t))
   io-routes = side-routes t ioSide entrySize _ (placed .ioapics) (obeyed t a .ioapics) _ (placed .interrupts)
 
   pub local-routes : (itype bus irq : ℕ)
-      → routesOf localSide t itype bus irq
+      → routesOf (question localSide itype bus irq) t
       ≡ pairsIn (enabledIn processorSize (part headerSize (p .buses) t)) (asked itype bus irq) (rows entrySize (part (p .locals) (p .mappings) t))
   local-routes = side-routes t localSide processorSize _ (placed .processors) (obeyed t a .processors) _ (placed .locals)
 
 -- ---- The query: the table's own number, then 24, then 19
 
-refused-answer : (n count : ℕ) → (n ≡ 0 → ⊥) → Refused n ≡ routedOf n count
-refused-answer zero count z = absurd (z refl)
-refused-answer (suc n) count z = refl
+module _ (q : Question) (t : List ℕ) where
+  line-some : among 0 (each number (lineRules q t)) ≡ false
+  unfolding lineRules tableRules among each
+  line-some = refl
 
-module _ (side : Side) (t : List ℕ) (itype bus irq : ℕ) (room : List ℕ) where
-  -- What is tested behind the table: 24 and 19.
-  askedRules : List Rule
-  askedRules = queryNumber when wrongLine t itype bus ∷ roomNumber when roomTooSmall side t itype bus irq room ∷ []
+  line-number : refusal (lineRules q t) ≡ first (tableRefusal t) (refusal (queryNumber when wrongLine q t ∷ []))
+  unfolding lineRules tableRefusal tableRules among each
+  line-number = refusal-append (tableRules t) (queryNumber when wrongLine q t ∷ []) refl
 
-  route-number : routeRefusal side t itype bus irq room ≡ first (tableRefusal t) (refusal askedRules)
-  unfolding routeRefusal routeRules tableRefusal tableRules askedRules among each
-  route-number = refusal-append (tableRules t) askedRules refl
+  pub line-accepted : refusal (lineRules q t) ≡ 0 → tableRefusal t ≡ 0
+  line-accepted e = first-none (tableRefusal t) _ (sym line-number ∙ e) .0
 
-  table-number : (tableRefusal t ≡ 0 → ⊥) → routeRefusal side t itype bus irq room ≡ tableRefusal t
-  table-number z = route-number ∙ first-some (tableRefusal t) (refusal askedRules) z
+  module _ (room : List ℕ) where
+    pub route-none : routeRefusal q t room ≡ 0 → tableRefusal t ≡ 0
+    unfolding routeRefusal
+    route-none e = line-accepted (lent-none (lineRules q t) line-some _ e .0)
 
-  -- A table that is refused.
-  pub routed-refused : (n : ℕ) → n ≡ tableRefusal t → (n ≡ 0 → ⊥) → Refused n ≡ routed side t itype bus irq room
-  unfolding routed
-  routed-refused n e z = rw (table-number (λ q. z (e ∙ q)), ← e) (refused-answer n _ z)
+    -- What is refused before the room.
+    refused : {n : ℕ} → refusal (lineRules q t) ≡ n → (n ≡ 0 → ⊥) → (Refused n ≡ routed q t room) × (room ≡ routesLeft q t room)
+    unfolding routed routesLeft routeRefusal
+    refused {n} e z =
+        let k = lent-early (lineRules q t) line-some (tooSmall (length (routesOf q t)) room) e z in
+        (rw k (lent-refused n _ z), rw k (sym (left-kept n _ room z)))
 
-  pub left-refused : (tableRefusal t ≡ 0 → ⊥) → room ≡ routesLeft side t itype bus irq room
-  unfolding routesLeft
-  left-refused z = rw (table-number z, ne-eqb (tableRefusal t) 0 z)
+    pub table-refused : {n : ℕ} → n ≡ tableRefusal t → (n ≡ 0 → ⊥) → (Refused n ≡ routed q t room) × (room ≡ routesLeft q t room)
+    table-refused {n} e z = refused (line-number ∙ rw (← e) (first-some n _ z)) z
 
-  -- A question that is.
-  number-24 : tableRefusal t ≡ 0 → wrongLine t itype bus ≡ true → routeRefusal side t itype bus irq room ≡ queryNumber
-  unfolding askedRules
-  number-24 a q = route-number ∙ rw a (refusal-stop queryNumber _ q)
+    pub line-refused : tableRefusal t ≡ 0 → wrongLine q t ≡ true → (Refused queryNumber ≡ routed q t room) × (room ≡ routesLeft q t room)
+    line-refused a w = refused (line-number ∙ rw a (refusal-stop queryNumber _ w)) (λ z. omega (arith, z))
 
-  pub routed-24 : tableRefusal t ≡ 0 → wrongLine t itype bus ≡ true → Refused queryNumber ≡ routed side t itype bus irq room
-  unfolding routed
-  routed-24 a q = rw (number-24 a q)
-
-  pub left-24 : tableRefusal t ≡ 0 → wrongLine t itype bus ≡ true → room ≡ routesLeft side t itype bus irq room
-  unfolding routesLeft
-  left-24 a q = rw (number-24 a q)
-
-  -- And one that is answered.
-  number-19 : tableRefusal t ≡ 0 → wrongLine t itype bus ≡ false
-      → routeRefusal side t itype bus irq room ≡ refusal (roomNumber when roomTooSmall side t itype bus irq room ∷ [])
-  unfolding askedRules
-  number-19 a q = route-number ∙ rw a (refusal-go queryNumber _ q)
-
-  pub routed-answered : tableRefusal t ≡ 0 → wrongLine t itype bus ≡ false
-      → answered (routesOf side t itype bus irq) room ≡ routed side t itype bus irq room
-  unfolding routed answered roomTooSmall refusal
-  routed-answered a q =
-      whether (roomTooSmall side t itype bus irq room)
-      (λ h. rw (number-19 a q, h))
-      (λ h. rw (number-19 a q, h))
-
-  pub left-answered : tableRefusal t ≡ 0 → wrongLine t itype bus ≡ false
-      → answerLeft (routesOf side t itype bus irq) room ≡ routesLeft side t itype bus irq room
-  unfolding routesLeft answerLeft roomTooSmall refusal
-  left-answered a q =
-      whether (roomTooSmall side t itype bus irq room)
-      (λ h. rw (number-19 a q, h))
-      (λ h. rw (number-19 a q, h))
+    -- And what is answered.
+    pub line-answered : tableRefusal t ≡ 0 → wrongLine q t ≡ false
+        → (paired (routesOf q t) room ≡ routed q t room) × (fitLeft (routesOf q t) room ≡ routesLeft q t room)
+    unfolding routed routesLeft routeRefusal fitted fitLeft
+    line-answered a w =
+        let z : refusal (lineRules q t) ≡ 0 = line-number ∙ rw a (refusal-go queryNumber _ w ∙ refusal-end) in
+        let k = fit-late (lineRules q t) line-some (routesOf q t) room z in
+        (rw k, rw k)

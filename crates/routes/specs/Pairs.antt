@@ -4,16 +4,15 @@ use Prim.Native.Nat.{ℕ, _/_}
 use mathlib.Core.Bool.{Bool, cond}
 use mathlib.Core.List.{List, [], _∷_}
 use lib.ListN.{length}
-use lib.Dec.{ltb, eqb}
-use Rattle.mps.specs.Words.{keep, each, joined, among, only, put}
+use lib.Dec.{eqb}
+use Rattle.mps.specs.Words.{keep, each, joined, among, only}
 use Rattle.mps.specs.Sums.{total}
-use Rattle.mps.specs.Refusals.{roomNumber}
 use Rattle.mps.specs.Layout.{Entry, enabled, idOf, destination, everyone}
 use Rattle.mps.specs.Rules.{Side, ioSide, localSide}
 use Rattle.mps.specs.Sections.{rows}
+use Rattle.mps.specs.Rooms.{fitted}
 use Rattle.mps.specs.Routes.{pair, pairSize}
-use Rattle.mps.specs.declared.Routed.{Routed}
-use Rattle.mps.specs.declared.Routed.the-variants.{Pairs, Refused}
+use Rattle.mps.specs.declared.Lent.{Lent}
 use Rattle.sets.specs.Sets.{putAll, noNumbers}
 use Rattle.routes.specs.declared.Enabled.{Enabled}
 
@@ -44,9 +43,6 @@ pairsIn ids p es = joined (pairsFor ids) (keep p es)
 unfoldable pub countIn : List ℕ → (Entry → Bool) → List Entry → ℕ
 countIn ids p es = total (each (λ (e : Entry). length (named ids (destination e))) (keep p es))
 
--- "answer longer than the lent room", and what is left in it.
-unfoldable pub answered : List ℕ → List ℕ → Routed
-answered pairs room = cond (ltb (length room) (length pairs)) (Refused roomNumber) (Pairs (length pairs / pairSize))
-
-unfoldable pub answerLeft : List ℕ → List ℕ → List ℕ
-answerLeft pairs room = cond (ltb (length room) (length pairs)) room (put pairs room)
+-- An answer of pairs in a lent room.
+abbrev pub paired : List ℕ → List ℕ → Lent
+paired pairs room = fitted pairs (length pairs / pairSize) room

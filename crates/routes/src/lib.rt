@@ -8,7 +8,7 @@
 // name all and as a set for those that name one: so the cost is that of the table and of the answer, and not of their
 // product. One pass over the interrupt entries counts the pairs, and a second one writes them where they fit.
 use mps::Examined;
-use mps::Routed;
+use mps::Lent;
 use mps::Sections;
 use mps::layout;
 use sets::Numbers;
@@ -22,10 +22,11 @@ ghost use Rattle.mps.specs.Layout.{entrySize};
 ghost use Rattle.mps.specs.Rules.{ioSide, localSide};
 ghost use Rattle.mps.specs.Sections.{rows};
 ghost use Rattle.mps.specs.Judge.{tableRefusal};
-ghost use Rattle.mps.specs.Routes.{asked as isAsked, pair, pairSize, routesOf, routed, routesLeft};
+ghost use Rattle.mps.specs.Rooms.{fitLeft};
+ghost use Rattle.mps.specs.Routes.{question, asked as isAsked, pair, pairSize, routesOf, routed, routesLeft};
 ghost use Rattle.sets.specs.Sets.{putAll, noNumbers};
 ghost use Rattle.judge.specs.Placed.{Placed};
-ghost use Rattle.routes.specs.Pairs.{sideOf, enabledIn, gathered, named, pairsFor, pairsIn, countIn, answered, answerLeft};
+ghost use Rattle.routes.specs.Pairs.{sideOf, enabledIn, gathered, named, pairsFor, pairsIn, countIn, paired};
 
 // The enabled APICs of a side: how many, and their IDs as a set.
 struct Enabled {
@@ -34,28 +35,28 @@ struct Enabled {
 }
 
 // Interrupt type, bus and IRQ in; the pairs stand in the room from its first byte on.
-pub fn io(t: &[u8], itype: u8, bus: u8, irq: u8, out: &mut [u8]) -> Routed
-    ensures { λ r. ⌜ r ≡ routed ioSide (now (t .entry)) itype bus irq (now (out .entry)) ⌝ }
-    ensures { λ _. ⌜ now (out .exit) ≡ routesLeft ioSide (now (t .entry)) itype bus irq (now (out .entry)) ⌝ }
+pub fn io(t: &[u8], itype: u8, bus: u8, irq: u8, out: &mut [u8]) -> Lent
+    ensures { λ r. ⌜ r ≡ routed (question ioSide itype bus irq) (now (t .entry)) (now (out .entry)) ⌝ }
+    ensures { λ _. ⌜ now (out .exit) ≡ routesLeft (question ioSide itype bus irq) (now (t .entry)) (now (out .entry)) ⌝ }
 {
     query(t, false, itype, bus, irq, out)
 }
 
 // The same over local interrupts and processors.
-pub fn local(t: &[u8], itype: u8, bus: u8, irq: u8, out: &mut [u8]) -> Routed
-    ensures { λ r. ⌜ r ≡ routed localSide (now (t .entry)) itype bus irq (now (out .entry)) ⌝ }
-    ensures { λ _. ⌜ now (out .exit) ≡ routesLeft localSide (now (t .entry)) itype bus irq (now (out .entry)) ⌝ }
+pub fn local(t: &[u8], itype: u8, bus: u8, irq: u8, out: &mut [u8]) -> Lent
+    ensures { λ r. ⌜ r ≡ routed (question localSide itype bus irq) (now (t .entry)) (now (out .entry)) ⌝ }
+    ensures { λ _. ⌜ now (out .exit) ≡ routesLeft (question localSide itype bus irq) (now (t .entry)) (now (out .entry)) ⌝ }
 {
     query(t, true, itype, bus, irq, out)
 }
 
-fn query(t: &[u8], local: bool, itype: u8, bus: u8, irq: u8, out: &mut [u8]) -> Routed
-    ensures { λ r. ⌜ r ≡ routed (sideOf local) (now (t .entry)) itype bus irq (now (out .entry)) ⌝ }
-    ensures { λ _. ⌜ now (out .exit) ≡ routesLeft (sideOf local) (now (t .entry)) itype bus irq (now (out .entry)) ⌝ }
+fn query(t: &[u8], local: bool, itype: u8, bus: u8, irq: u8, out: &mut [u8]) -> Lent
+    ensures { λ r. ⌜ r ≡ routed (question (sideOf local) itype bus irq) (now (t .entry)) (now (out .entry)) ⌝ }
+    ensures { λ _. ⌜ now (out .exit) ≡ routesLeft (question (sideOf local) itype bus irq) (now (t .entry)) (now (out .entry)) ⌝ }
 {
     let found = judge::examine(t);
     match found {
-        Examined::Refused(n) => Routed::Refused(n),
+        Examined::Refused(n) => Lent::Refused(n),
         Examined::Accepted(p) => behind_table(t, p, local, itype, bus, irq, out),
     }
 }
@@ -69,35 +70,27 @@ fn behind_table(
     bus: u8,
     irq: u8,
     out: &mut [u8],
-) -> Routed
+) -> Lent
     requires { ⌜ (tableRefusal (now t) ≡ 0) × (Placed (now t) p) ⌝ }
-    ensures { λ r. ⌜ r ≡ routed (sideOf local) (now (t .entry)) itype bus irq (now (out .entry)) ⌝ }
-    ensures { λ _. ⌜ now (out .exit) ≡ routesLeft (sideOf local) (now (t .entry)) itype bus irq (now (out .entry)) ⌝ }
+    ensures { λ r. ⌜ r ≡ routed (question (sideOf local) itype bus irq) (now (t .entry)) (now (out .entry)) ⌝ }
+    ensures { λ _. ⌜ now (out .exit) ≡ routesLeft (question (sideOf local) itype bus irq) (now (t .entry)) (now (out .entry)) ⌝ }
 {
     let buses = p.buses;
     let ioapics = p.ioapics;
     if layout::INTERRUPT_TYPE_MOST < itype {
-        return Routed::Refused(24);
+        return Lent::Refused(24);
     }
     if !buses::is_listed(&t[buses..ioapics], bus) {
-        return Routed::Refused(24);
+        return Lent::Refused(24);
     }
     of_side(t, p, local, itype, bus, irq, out)
 }
 
 // Apart from 24's tests, since what a side answers asks nothing of them.
-fn of_side(
-    t: &[u8],
-    p: Sections,
-    local: bool,
-    itype: u8,
-    bus: u8,
-    irq: u8,
-    out: &mut [u8],
-) -> Routed
+fn of_side(t: &[u8], p: Sections, local: bool, itype: u8, bus: u8, irq: u8, out: &mut [u8]) -> Lent
     requires { ⌜ (tableRefusal (now t) ≡ 0) × (Placed (now t) p) ⌝ }
-    ensures { λ r. ⌜ r ≡ answered (routesOf (sideOf local) (now (t .entry)) itype bus irq) (now (out .entry)) ⌝ }
-    ensures { λ _. ⌜ now (out .exit) ≡ answerLeft (routesOf (sideOf local) (now (t .entry)) itype bus irq) (now (out .entry)) ⌝ }
+    ensures { λ r. ⌜ r ≡ paired (routesOf (question (sideOf local) itype bus irq) (now (t .entry))) (now (out .entry)) ⌝ }
+    ensures { λ _. ⌜ now (out .exit) ≡ fitLeft (routesOf (question (sideOf local) itype bus irq) (now (t .entry))) (now (out .entry)) ⌝ }
 {
     let buses = p.buses;
     let ioapics = p.ioapics;
@@ -136,10 +129,10 @@ fn answer(
     bus: u8,
     irq: u8,
     out: &mut [u8],
-) -> Routed
+) -> Lent
     requires { ⌜ (4 ≤ size) × (twice (enabledIn size (now targets)) ≡ false) × (length (now entries) ≤ 65535) ⌝ }
-    ensures { λ r. ⌜ r ≡ answered (pairsIn (enabledIn size (now (targets .entry))) (isAsked itype bus irq) (rows entrySize (now (entries .entry)))) (now (out .entry)) ⌝ }
-    ensures { λ _. ⌜ now (out .exit) ≡ answerLeft (pairsIn (enabledIn size (now (targets .entry))) (isAsked itype bus irq) (rows entrySize (now (entries .entry)))) (now (out .entry)) ⌝ }
+    ensures { λ r. ⌜ r ≡ paired (pairsIn (enabledIn size (now (targets .entry))) (isAsked itype bus irq) (rows entrySize (now (entries .entry)))) (now (out .entry)) ⌝ }
+    ensures { λ _. ⌜ now (out .exit) ≡ fitLeft (pairsIn (enabledIn size (now (targets .entry))) (isAsked itype bus irq) (rows entrySize (now (entries .entry)))) (now (out .entry)) ⌝ }
 {
     let mut list = [0; 256];
     let to = gather(&mut list, targets, size);
@@ -148,10 +141,10 @@ fn answer(
     let ids = &list[0..n];
     let pairs = count(entries, itype, bus, irq, ids, set);
     if out.len() < pairs * layout::PAIR_SIZE {
-        return Routed::Refused(19);
+        return Lent::Refused(19);
     }
     write(out, entries, itype, bus, irq, ids, set);
-    Routed::Pairs(pairs)
+    Lent::Count(pairs)
 }
 
 // The enabled APICs, of entries of `size` bytes each: their IDs stand in `ids` from its first place on, in table order.

@@ -6,8 +6,8 @@
 //
 // The image is laid where it shall stand, judged there, and made zero again where it is refused: no second buffer is needed.
 use mps::Fields;
+use mps::Lent;
 use mps::Parted;
-use mps::Written;
 use mps::layout;
 ghost use mathlib.Core.Path.{_≡_};
 ghost use Prim.Native.Nat.{_≤_};
@@ -21,27 +21,27 @@ ghost use Rattle.mps.specs.Writing.{image, fieldsOf, parted, written, writeLeft
 ghost use Rattle.mps.specs.Edits.{sealed};
 ghost use Rattle.writer.specs.Laid.{partsGiven, front, frontSize, rest, Room};
 
-pub fn write(fields: Fields, base: &[u8], extended: &[u8], room: &mut [u8]) -> Written
+pub fn write(fields: Fields, base: &[u8], extended: &[u8], room: &mut [u8]) -> Lent
     ensures { λ r. ⌜ r ≡ written (partsGiven fields (now (base .entry)) (now (extended .entry))) (now (room .entry)) ⌝ }
     ensures { λ _. ⌜ now (room .exit) ≡ writeLeft (partsGiven fields (now (base .entry)) (now (extended .entry))) (now (room .entry)) ⌝ }
 {
     let base_size = layout::HEADER_SIZE + base.len();
     if layout::PART_MOST < base_size {
-        return Written::Refused(7);
+        return Lent::Refused(7);
     }
     if layout::PART_MOST < extended.len() {
-        return Written::Refused(13);
+        return Lent::Refused(13);
     }
     let size = base_size + extended.len();
     if room.len() < size {
-        return Written::Refused(19);
+        return Lent::Refused(19);
     }
     let number = lay_judged(fields, base, extended, &mut room[..size]);
     if number == 0 {
-        return Written::Bytes(size);
+        return Lent::Count(size);
     }
     slices::clear(room, size);
-    Written::Refused(number)
+    Lent::Refused(number)
 }
 
 // The image, and the number that it is refused with.

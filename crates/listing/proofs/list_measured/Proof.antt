@@ -1,7 +1,8 @@
 -- The listing is measured, then written where it fits.
 use native.Mathlib.Omega.{arith}
-use Rattle.listing.specs.Fits.{tableText}
-use Rattle.listing.proofs.Laws.{short, sure}
+use lib.ListN.{length}
+use Rattle.listing.specs.Texts.{tableText}
+use Rattle.laws.proofs.Lent.{fit-put, fit-short}
 use borrow.Author.Needs.{needs}
 use Rattle.listing.proofs.list_measured.Statement.{statement}
 use Rattle.listing.proofs.list_measured.Tie as tie
@@ -9,8 +10,8 @@ use Rattle.listing.proofs.list_measured.Tie as tie
 returns : tie.Need-returns
 returns c =
     let a = c .before .before .before .before .args in
-    short (tableText (a .pointer) (a .imcr) (a .address) (a .t .now)) (a .out .now)
-    (c .before .table-width .ensures (a .pointer) (a .address)) (c .if1 .taken)
+    let w = tableText (a .pointer) (a .imcr) (a .address) (a .t .now) in
+    fit-short w (length w) (a .out .now) (omega (arith, c .before .table-width .ensures (a .pointer) (a .address), c .if1 .taken))
 
 returns-2 : tie.Need-returns-2
 returns-2 c =
@@ -18,7 +19,8 @@ returns-2 c =
     let w = c .before .before .before .before .before in
     let a = w .before .before .before .args in
     let e = w .table-width .ensures (a .pointer) (a .address) in
-    sure (tableText (a .pointer) (a .imcr) (a .address) (a .t .now)) (a .out .now) (p .last .0) e
+    let l = tableText (a .pointer) (a .imcr) (a .address) (a .t .now) in
+    fit-put l (length l) (a .out .now) e
     (omega (arith, e, c .before .before .before .before .if1 .left)) (p .ensures .1)
 
 pub list-measured-spec : {M : Type 1} → statement M

@@ -1,7 +1,7 @@
 -- The listing's answer, but for a refusal of the dump: that becomes a line.
 use mathlib.Core.Path.{sym, _∙_}
 use borrow.Author.Needs.{needs}
-use Rattle.listing.proofs.Laws.{print-bytes, print-room, print-refusal}
+use Rattle.listing.proofs.Laws.{print-count, print-room, print-refusal}
 use Rattle.listing.proofs.print.Statement.{statement}
 use Rattle.listing.proofs.print.Tie as tie
 
@@ -16,7 +16,7 @@ returns-2 : tie.Need-returns-2
 returns-2 c =
     let l = c .before .before .before .before .before .list in
     let a = c .before .before .before .before .before .before .before .before .before .args in
-    print-bytes (a .d .now) (a .out .now) (sym (c .before .answer .given .1) ∙ l .ensures .0) (l .ensures .1)
+    print-count (a .d .now) (a .out .now) (sym (c .before .answer .given .1) ∙ l .ensures .0) (l .ensures .1)
 
 returns-3 : tie.Need-returns-3
 returns-3 c =

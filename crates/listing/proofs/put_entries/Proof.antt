@@ -8,7 +8,7 @@ use lib.Seq.{length-sets}
 use borrow.Author.Needs.{needs}
 use Rattle.lines.specs.Wrote.{Wrote}
 use Rattle.lines.proofs.Laws.{then}
-use Rattle.listing.specs.Fits.{entriesText}
+use Rattle.listing.specs.Texts.{entriesText}
 use Rattle.listing.proofs.Walk.{Walking, walking-first, walking-done, walking-ahead, walking-next, walking-most}
 use Rattle.listing.proofs.Longest.{entries-most}
 use Rattle.listing.proofs.put_entries.Statement.{statement}

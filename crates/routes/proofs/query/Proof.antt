@@ -2,8 +2,10 @@
 use mathlib.Core.Path.{sym}
 use native.Mathlib.Omega.{arith}
 use borrow.Author.Needs.{needs}
+use Rattle.mps.specs.Routes.{question}
+use Rattle.routes.specs.Pairs.{sideOf}
 use Rattle.judge.proofs.Laws.{accepted-number, accepted-places}
-use Rattle.routes.proofs.Answering.{table-refused}
+use Rattle.routes.proofs.Answering.{examined-refused}
 use Rattle.routes.proofs.query.Statement.{statement}
 use Rattle.routes.proofs.query.Tie as tie
 
@@ -18,7 +20,7 @@ behind-table-requires c κs =
 returns : tie.Need-returns
 returns c =
     let a = c .before .before .before .before .before .before .args in
-    table-refused (a .local) (a .t .now) (a .itype) (a .bus) (a .irq) (a .out .now)
+    examined-refused (question (sideOf (a .local)) (a .itype) (a .bus) (a .irq)) (a .t .now) (a .out .now)
     (c .before .before .before .examine .ensures) (c .before .found .given .1)
 
 returns-2 : tie.Need-returns-2
