@@ -3,3 +3,4 @@ pub mod Ranks
 pub mod Marks
 pub mod Climbs
 pub mod Laws
+pub mod Refuses

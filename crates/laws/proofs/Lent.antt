@@ -9,10 +9,10 @@ use lib.ListN.{length, getD}
 use lib.Seq.{sets}
 use lib.Dec.{eqb}
 use borrow.Author.Tests.{lt-ltb, le-ltb, ltb-false, ne-eqb}
-use Rattle.mps.specs.Words.{among, any, each, put, first, head}
+use Rattle.mps.specs.Words.{among, any, each, put, first}
 use Rattle.mps.specs.Refusals.{Rule, _when_, refusal, roomNumber}
-use Rattle.mps.specs.Answers.{lentNumbers, lentOf}
-use Rattle.mps.specs.Rooms.{tooSmall, lentRefusal, lentLeft, roomRefusal, fitted, fitLeft}
+use Rattle.mps.specs.Answers.{numberOf, lentNumbers, lentOf}
+use Rattle.mps.specs.Rooms.{tooSmall, roomRules, lentRefusal, lentLeft, roomRefusal, fitted, fitLeft}
 use Rattle.mps.specs.declared.Lent.{Lent}
 use Rattle.mps.specs.declared.Lent.the-variants.{Count, Refused}
 use Rattle.laws.proofs.Refusals.{number, so, first-none, refusal-append, refusal-pass, given-exactly, given-before}
@@ -22,7 +22,7 @@ use Rattle.laws.proofs.Stores.{sets-at-start}
 
 module _ (rows : List Rule) (some : among 0 (each number rows) ≡ false) where
   pub lent-number : (small : Bool) → lentRefusal rows small ≡ first (refusal rows) (refusal (roomNumber when small ∷ []))
-  unfolding lentRefusal
+  unfolding lentRefusal roomRules
   lent-number small = refusal-append rows (roomNumber when small ∷ []) some
 
   -- What the rows refuse is refused whatever the room.
@@ -35,7 +35,7 @@ module _ (rows : List Rule) (some : among 0 (each number rows) ≡ false) where
 
   -- Where they refuse nothing, the room alone decides.
   pub lent-late : (small : Bool) → refusal rows ≡ 0 → lentRefusal rows small ≡ lentRefusal [] small
-  unfolding lentRefusal
+  unfolding lentRefusal roomRules
   lent-late small e = lent-number small ∙ rw e
 
   pub lent-none : (small : Bool) → lentRefusal rows small ≡ 0 → (refusal rows ≡ 0) × (small ≡ false)
@@ -46,12 +46,12 @@ module _ (rows : List Rule) (some : among 0 (each number rows) ≡ false) where
 -- 19, given exactly when the room is too small and no row before is so; any other number, exactly when the rows give it.
 pub lent-19 : (rows : List Rule) (small : Bool) → among roomNumber (each number rows) ≡ false
     → (lentRefusal rows small ≡ roomNumber) ↔ ((any so rows ≡ false) × (small ≡ true))
-unfolding lentRefusal among each
+unfolding lentRefusal roomRules among each
 lent-19 rows small a = given-exactly rows roomNumber small [] (omega arith) a refl
 
 pub lent-before : (rows : List Rule) (small : Bool) → among 0 (each number rows) ≡ false → (n : ℕ) → 0 < n → eqb n roomNumber ≡ false
     → (lentRefusal rows small ≡ n) ↔ (refusal rows ≡ n)
-unfolding lentRefusal among each
+unfolding lentRefusal roomRules among each
 lent-before rows small z n h k = given-before rows (roomNumber when small ∷ []) z n h (rw k)
 
 -- ---- The answer, and what is left
@@ -66,7 +66,7 @@ unfolding lentLeft
 left-put answer room = refl
 
 -- The answer as a number and a count.
-pub lent-of : (n count : ℕ) → head 0 (lentNumbers (lentOf n count)) ≡ n
+pub lent-of : (n count : ℕ) → numberOf (lentNumbers (lentOf n count)) ≡ n
 lent-of zero count = refl
 lent-of (suc n) count = refl
 
@@ -74,10 +74,11 @@ pub lent-refused : (n count : ℕ) → (n ≡ 0 → ⊥) → Refused n ≡ lentO
 lent-refused zero count z = absurd (z refl)
 lent-refused (suc n) count z = refl
 
--- And back: a count is the answer's, and a refusal's number the call's.
-numberOf : Lent → ℕ
-numberOf r = head 0 (lentNumbers r)
+-- What is refused leaves the room as it was,
+pub lent-kept : (n count : ℕ) (answer room : List ℕ) → (numberOf (lentNumbers (lentOf n count)) ≡ 0 → ⊥) → lentLeft n answer room ≡ room
+lent-kept n count answer room z = left-kept n answer room (λ e. z (lent-of n count ∙ e))
 
+-- And back: a count is the answer's, and a refusal's number the call's.
 valueOf : Lent → ℕ
 valueOf r = getD (lentNumbers r) 1 0
 
@@ -90,14 +91,20 @@ count-given zero count e = (refl, ap valueOf e)
 count-given (suc m) count e = absurd (omega (arith, ap values e))
 
 pub refused-given : (m count : ℕ) {n : ℕ} → Refused n ≡ lentOf m count → (0 < n) × (m ≡ n)
-unfolding numberOf values
+unfolding values
 refused-given zero count e = absurd (omega (arith, ap values e))
-refused-given (suc m) count e = let k = ap numberOf e in (omega (arith, k), omega (arith, k))
+refused-given (suc m) count e = let k = ap (λ (r : Lent). numberOf (lentNumbers r)) e in (omega (arith, k), omega (arith, k))
+
+-- and what is counted stands at its first byte.
+pub lent-shown : (m count : ℕ) (answer room : List ℕ) {n : ℕ} → lentOf m count ≡ Count n → (n ≡ count) × (lentLeft m answer room ≡ put answer room)
+lent-shown m count answer room e =
+    let g = count-given m count (sym e) in
+    (g .1, rw (g .0) (left-put answer room))
 
 -- ---- An answer that nothing but its room can refuse
 
 pub fits : (answer room : List ℕ) → length answer ≤ length room → roomRefusal answer room ≡ 0
-unfolding roomRefusal lentRefusal refusal tooSmall
+unfolding roomRefusal lentRefusal roomRules refusal tooSmall
 fits answer room h = rw (le-ltb (length room) (length answer) h)
 
 module _ (answer : List ℕ) (count : ℕ) (room : List ℕ) where
@@ -107,7 +114,7 @@ module _ (answer : List ℕ) (count : ℕ) (room : List ℕ) where
   fit-put e h k = let z = fits answer room h in (rw (z, e), rw (z, left-put answer room) (k ∙ sets-at-start room answer h))
 
   pub fit-short : length room < length answer → (Refused roomNumber ≡ fitted answer count room) × (room ≡ fitLeft answer room)
-  unfolding fitted fitLeft roomRefusal lentRefusal lentLeft refusal tooSmall
+  unfolding fitted fitLeft roomRefusal lentRefusal roomRules lentLeft refusal tooSmall
   fit-short h = let t = lt-ltb (length room) (length answer) h in (rw t, rw t)
 
 -- Where a call's rows refuse nothing, its answer goes into the room as any does.

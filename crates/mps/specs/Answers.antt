@@ -5,6 +5,7 @@ use Prim.Native.Nat.{ℕ, zero, suc}
 use mathlib.Core.Bool.{cond}
 use mathlib.Core.List.{List, [], _∷_}
 use lib.Dec.{eqb}
+use Rattle.mps.specs.Words.{head}
 use Rattle.mps.specs.Refusals.{innerNumber}
 use Rattle.mps.specs.declared.Judged.{Judged}
 use Rattle.mps.specs.declared.Judged.the-variants.{Accepted, Refused as Judged·Refused}
@@ -23,6 +24,10 @@ use Rattle.mps.specs.declared.Edited.{Edited}
 use Rattle.mps.specs.declared.Edited.the-variants.{Done, Refused as Edited·Refused, Inner}
 use Rattle.mps.specs.declared.Found.{Found}
 use Rattle.mps.specs.declared.Found.the-variants.{Whole, Nothing}
+
+-- The number of an answer is the first: the refusal's, or 0.
+abbrev pub numberOf : List ℕ → ℕ
+numberOf numbers = head 0 numbers
 
 -- ---- From an enum to the paper's numbers
 

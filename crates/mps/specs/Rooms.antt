@@ -15,10 +15,13 @@ use Rattle.mps.specs.declared.Lent.{Lent}
 unfoldable pub tooSmall : ℕ → List ℕ → Bool
 tooSmall size room = ltb (length room) size
 
--- The number: the rows that the call tests before its room, then 19. A call that is lent two rooms gives 19 where either is
--- too small.
+-- The rows that the call tests before its room, then 19. A call that is lent two rooms gives 19 where either is too small.
+unfoldable pub roomRules : List Rule → Bool → List Rule
+roomRules rows small = rows ++ (roomNumber when small ∷ [])
+
+-- The number.
 unfoldable pub lentRefusal : List Rule → Bool → ℕ
-lentRefusal rows small = refusal (rows ++ (roomNumber when small ∷ []))
+lentRefusal rows small = refusal (roomRules rows small)
 
 -- What a room holds then: the answer's bytes and what lies past them, or at a refusal what it held before.
 unfoldable pub lentLeft : ℕ → List ℕ → List ℕ → List ℕ

@@ -17,14 +17,14 @@ use Rattle.mps.specs.Layout.{Entry, busType, spaceKindMost, extendedBus, parent
 use Rattle.mps.specs.Rules.{isListed, idsOf, links, onBus, parentsOf, wrongHierarchy}
 use Rattle.mps.specs.Judge.{tableRules, tableRefusal}
 use Rattle.mps.specs.Addresses.{Say, says, answer, climb, seenBy, wrongSpace, addressRules, seen}
-use Rattle.mps.specs.Answers.{linksOf}
+use Rattle.mps.specs.Answers.{linksOf, seenNumbers, seenOf}
 use Rattle.mps.specs.declared.Seen.{Seen}
 use Rattle.mps.specs.declared.Seen.the-variants.{No, Undeclared, Refused}
 use Rattle.laws.proofs.Tests.{whether, or-parts}
 use Rattle.laws.proofs.Refusals.{so, refusal-none, given-before, given-exactly}
 use Rattle.laws.proofs.Circle.{parentsOf-here, parentsOf-skip}
 use Rattle.accepted.proofs.Obeyed.{obeyed}
-use Rattle.promises.proofs.Answered.{seen-refusal}
+use Rattle.promises.proofs.Answered.{exactly, seen-of}
 use Rattle.promises.proofs.Given.{Exactly}
 use Rattle.addresses.proofs.Links.{links-climb, links-bound}
 use Rattle.addresses.proofs.Climbs.{parent-linked, answer-above}
@@ -183,7 +183,8 @@ module _ (t : List ℕ) (bus kind address : ℕ) where
   -- A refusal is answered with its number.
   pub seen-refused : (n : ℕ) → (seen t bus kind address ≡ Refused (suc n)) ↔ (refusal (addressRules t bus kind) ≡ suc n)
   unfolding seen
-  seen-refused n = (λ e. seen-refusal t bus kind address (refusal (addressRules t bus kind)) (suc n) e .1, λ e. rw e)
+  seen-refused n =
+      exactly seenNumbers (λ m. seenOf m (seenBy t bus kind address)) (seen-of t bus kind address) (refusal (addressRules t bus kind)) (suc n)
 
   -- Answered: no row is so.
   pub address-none : (refusal (addressRules t bus kind) ≡ 0) ↔ (any so (addressRules t bus kind) ≡ false)

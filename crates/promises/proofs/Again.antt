@@ -12,8 +12,8 @@ use Rattle.mps.specs.Words.{exactly, part, put}
 use Rattle.mps.specs.Answers.{partedOf}
 use Rattle.mps.specs.Layout.{headerSize, baseLength, extendedEnd, basePart, extendedPart}
 use Rattle.mps.specs.Judge.{tableRefusal}
-use Rattle.mps.specs.Writing.{Parts, partsOf, fieldsOf, parted, image, imageSize, baseSize, earlyRefusal, writeRefusal, written, writeLeft}
-use Rattle.mps.specs.declared.Written.the-variants.{Bytes as Written·Bytes}
+use Rattle.mps.specs.Writing.{Parts, partsOf, fieldsOf, parted, image, imageSize, baseSize, earlyRefusal, writeRefusal, written, finished, writeLeft}
+use Rattle.mps.specs.declared.Lent.the-variants.{Count}
 use Rattle.mps.specs.declared.Parted.{Parted}
 use Rattle.mps.specs.declared.Parted.the-variants.{Parts as Parted·Parts, Refused as Parted·Refused}
 use Rattle.laws.proofs.Lists.{exactly-all}
@@ -24,6 +24,7 @@ use Rattle.numbers.proofs.Laws.{le-below}
 use Rattle.accepted.proofs.Sound.{Sound, sound}
 use Rattle.accepted.proofs.Agree.{agree-refusal, agree-parts}
 use Rattle.writer.proofs.Calls.{write-none}
+use Rattle.laws.proofs.Lent.{left-put, count-given}
 use Rattle.writer.proofs.Most.{Fits, early-fits}
 use Rattle.writer.proofs.Reading.{fields-inside}
 use Rattle.promises.proofs.Headers.{image-reads, image-base, image-extended, base-again, extended-again, header-again, base-sum-again, extended-sum-again}
@@ -41,8 +42,8 @@ module _ (p : Parts) (room : List ℕ) where
   fits-early f = write-none p room (f .base) (f .extended) (f .whole)
 
   left-image : earlyRefusal p room ≡ 0 → tableRefusal (image p) ≡ 0 → writeLeft p room ≡ put (image p) room
-  unfolding writeLeft
-  left-image e f = rw (e, f)
+  unfolding writeLeft finished
+  left-image e f = rw (e, f, left-put (image p) room)
 
 -- "Writing the parts of an accepted table gives its bytes again"
 module _ (t : List ℕ) (b : Bytes t) (a : tableRefusal t ≡ 0) where
@@ -77,7 +78,7 @@ module _ (t : List ℕ) (b : Bytes t) (a : tableRefusal t ≡ 0) where
 
   -- and the call answers so in every room that holds it.
   pub written-again : (room : List ℕ) → extendedEnd t ≤ length room
-      → (written (partsOf t) room ≡ Written·Bytes (extendedEnd t)) × (writeLeft (partsOf t) room ≡ put (take (extendedEnd t) t) room)
+      → (written (partsOf t) room ≡ Count (extendedEnd t)) × (writeLeft (partsOf t) room ≡ put (take (extendedEnd t) t) room)
   unfolding written writeRefusal
   written-again room h =
       let s = sound t a in
@@ -104,7 +105,7 @@ parts-accepted (suc n) a b base end e = absurd (true≢false (sym (ap isParts e)
 
 pub calls-again : (t : List ℕ) (base end : ℕ) (room : List ℕ) → Bytes t → parted t ≡ Parted·Parts base end → end ≤ length room
     → let p : Parts = record { fields = fieldsOf (exactly headerSize t); base = part headerSize base t; extended = part base end t } in
-    (written p room ≡ Written·Bytes end) × (writeLeft p room ≡ put (take end t) room)
+    (written p room ≡ Count end) × (writeLeft p room ≡ put (take end t) room)
 unfolding parted partsOf
 calls-again t base end room b e h =
     let k = parts-accepted (tableRefusal t) (baseLength t) (extendedEnd t) base end e in

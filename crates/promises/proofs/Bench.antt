@@ -6,12 +6,12 @@ use Rattle.mps.specs.Words.{text, each}
 use Rattle.mps.specs.Judge.{judged, examined}
 use Rattle.mps.specs.Listing.{listed, listLeft, programOutput}
 use Rattle.mps.specs.Rules.{localSide}
-use Rattle.mps.specs.Routes.{routed, routesLeft}
+use Rattle.mps.specs.Routes.{question, routed, routesLeft}
 use Rattle.mps.specs.Addresses.{seen}
 use Rattle.mps.specs.Writing.{Parts, fieldsOf, partsOf, parted, image, written, writeLeft}
 use Rattle.mps.specs.Edits.{Edit, edited, editLeft, runAnswers}
 use Rattle.mps.specs.Reader.{found, nextPlace}
-use Rattle.mps.specs.Answers.{judgedNumbers, examinedNumbers, routedNumbers, seenNumbers, writtenNumbers, partedNumbers, editedNumbers, foundNumbers}
+use Rattle.mps.specs.Answers.{judgedNumbers, examinedNumbers, lentNumbers, seenNumbers, partedNumbers, editedNumbers, foundNumbers}
 use Rattle.promises.specs.Board.{table, dump, interrupt}
 use Rattle.promises.specs.Cases.{toInput9, dumpWithChecksum}
 use Rattle.promises.specs.Printed.{printed}
@@ -28,7 +28,7 @@ unfolding computed
 board-examined = refl
 
 -- Its listing has 147 bytes: with two bytes more the room's end stays, with one byte less all of it does.
-pub board-listed-count : writtenNumbers (listed dump (replicate 149 0xee)) ≡ 0 ∷ 147 ∷ []
+pub board-listed-count : lentNumbers (listed dump (replicate 149 0xee)) ≡ 0 ∷ 147 ∷ []
 unfolding computed
 board-listed-count = refl
 
@@ -36,7 +36,7 @@ pub board-listed-room : listLeft dump (replicate 149 0xee) ≡ printed ++ (0xee 
 unfolding computed printed
 board-listed-room = refl
 
-pub board-listed-short : writtenNumbers (listed dump (replicate 146 0xee)) ++ listLeft dump (replicate 146 0xee) ≡ 19 ∷ replicate 146 0xee
+pub board-listed-short : lentNumbers (listed dump (replicate 146 0xee)) ++ listLeft dump (replicate 146 0xee) ≡ 19 ∷ replicate 146 0xee
 unfolding computed
 board-listed-short = refl
 
@@ -58,7 +58,7 @@ pub board-room : writeLeft (partsOf table) (replicate 98 0xee) ≡ table ++ (0xe
 unfolding computed
 board-room = refl
 
-pub board-count : writtenNumbers (written (partsOf table) (replicate 98 0xee)) ≡ 0 ∷ 96 ∷ []
+pub board-count : lentNumbers (written (partsOf table) (replicate 98 0xee)) ≡ 0 ∷ 96 ∷ []
 unfolding computed
 board-count = refl
 
@@ -67,11 +67,11 @@ board-count = refl
 abbrev bare : Parts
 bare = record { fields = fieldsOf table; base = []; extended = [] }
 
-pub board-refused : writtenNumbers (written bare (replicate 46 0xee)) ++ writeLeft bare (replicate 46 0xee) ≡ 14 ∷ (replicate 44 0 ++ (0xee ∷ 0xee ∷ []))
+pub board-refused : lentNumbers (written bare (replicate 46 0xee)) ++ writeLeft bare (replicate 46 0xee) ≡ 14 ∷ (replicate 44 0 ++ (0xee ∷ 0xee ∷ []))
 unfolding computed
 board-refused = refl
 
-pub board-no-room : writtenNumbers (written bare (replicate 43 0xee)) ++ writeLeft bare (replicate 43 0xee) ≡ 19 ∷ replicate 43 0xee
+pub board-no-room : lentNumbers (written bare (replicate 43 0xee)) ++ writeLeft bare (replicate 43 0xee) ≡ 19 ∷ replicate 43 0xee
 unfolding computed
 board-no-room = refl
 
@@ -97,7 +97,7 @@ board-walked = refl
 
 -- ExtINT of bus 0, IRQ 0, goes to every enabled processor, which is processor 0, at input 0.
 pub board-local :
-    routedNumbers (routed localSide table 3 0 0 (replicate 2 0xee)) ++ routesLeft localSide table 3 0 0 (replicate 2 0xee)
+    lentNumbers (routed (question localSide 3 0 0) table (replicate 2 0xee)) ++ routesLeft (question localSide 3 0 0) table (replicate 2 0xee)
     ≡ 0 ∷ 1 ∷ 0 ∷ 0 ∷ []
 unfolding computed
 board-local = refl

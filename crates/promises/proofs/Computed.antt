@@ -3,6 +3,7 @@
 use Prim.Native.Nat.{ℕ}
 use Rattle.mps.specs.Words.{text, bit, same, among, twice, common, keep, any, every, each, joined, cut, exactly}
 use Rattle.mps.specs.Refusals.{refusal}
+use Rattle.mps.specs.Rooms.{tooSmall, roomRules, lentRefusal, lentLeft, roomRefusal, fitted, fitLeft}
 use Rattle.mps.specs.Sums.{total, sum256, toStore}
 use Rattle.mps.specs.Numbers.{le, bytes}
 use Rattle.mps.specs.Layout.{knownRevision, baseEntryLength, baseEntries, extendedEntries, ownLength}
@@ -14,10 +15,10 @@ use Rattle.mps.specs.Table.{headerCut, wrongSignature, wrongBaseLength, wrongBa
 use Rattle.mps.specs.Rules.{enabledOf, idsOf, enabledIds, bootstraps, wrongProcessors, unknownName, wrongBuses, misplaced, wrongIoApics, isListed, wrongInterrupt, wrongInput, wrongOnSide, wrongInterrupts, wrongMapping, wrongHierarchy, wrongModifier, links, parentsOf, climbsTo, onCircle, circle, wrongSpaces}
 use Rattle.mps.specs.Sections.{rows, span, baseAfter, extendedAfter, sections}
 use Rattle.mps.specs.Judge.{tableRules, tableRefusal, pointerRules, dumpRules, dumpRefusal, judged, examined, told, pointed, held}
-use Rattle.mps.specs.Routes.{asked, matches, names, pair, pairsTo, routes, routesOf, wrongLine, roomTooSmall, routeRules, routeRefusal, routed, routesLeft}
+use Rattle.mps.specs.Routes.{asked, matches, names, pair, pairsTo, routes, routesOf, wrongLine, lineRules, routeRefusal, routed, routesLeft}
 use Rattle.mps.specs.Addresses.{covers, touches, takesAway, adds, coversOrAdds, hasEntry, subtractive, says, climb, seenBy, wrongSpace, addressRules, seen}
-use Rattle.mps.specs.Listing.{digits, decimalDigit, hexDigit, decimalWidth, decimal, hex, line, unpadded, onOff, bootAp, interruptName, cpuLine, busLine, ioApicLine, interruptLine, baseLine, mapLine, treeLine, modLine, skipLine, extendedLine, defaultLine, pointerLine, tableLine, endLine, tableLines, listing, refusedLine, programOutput, listRefusal, listed, listLeft, printRefusal, printed, printLeft}
-use Rattle.mps.specs.Writing.{fieldsOf, partsOf, parted, header, extendedSumOf, baseSumOf, image, earlyRefusal, writeRefusal, written, writeLeft}
+use Rattle.mps.specs.Listing.{digits, decimalDigit, hexDigit, decimalWidth, decimal, hex, line, unpadded, onOff, bootAp, interruptName, cpuLine, busLine, ioApicLine, interruptLine, baseLine, mapLine, treeLine, modLine, skipLine, extendedLine, defaultLine, pointerLine, tableLine, endLine, tableLines, listing, refusedLine, programOutput, listRefusal, listed, listLeft, printed, printLeft}
+use Rattle.mps.specs.Writing.{fieldsOf, partsOf, parted, header, extendedSumOf, baseSumOf, image, partRules, earlyRefusal, writeRefusal, written, finished, writeLeft}
 use Rattle.mps.specs.Edits.{standing, before, offsetOf, sealed, editedTable, noPlace, otherShape, changed, innerRefusal, editRules, editRefusal, edited, editLeft, run, runAnswers}
 use Rattle.mps.specs.Reader.{baseStep, extendedStep, sizeAt, entryAt, nextPlace, found}
 
@@ -28,6 +29,10 @@ ofWords = 0
 ofRefusals : ℕ
 unfolding refusal
 ofRefusals = 0
+
+ofRooms : ℕ
+unfolding tooSmall roomRules lentRefusal lentLeft roomRefusal fitted fitLeft
+ofRooms = 0
 
 ofSums : ℕ
 unfolding total sum256 toStore
@@ -74,7 +79,7 @@ unfolding tableRules tableRefusal pointerRules dumpRules dumpRefusal judged exam
 ofJudge = 0
 
 ofRoutes : ℕ
-unfolding asked matches names pair pairsTo routes routesOf wrongLine roomTooSmall routeRules routeRefusal routed routesLeft
+unfolding asked matches names pair pairsTo routes routesOf wrongLine lineRules routeRefusal routed routesLeft
 ofRoutes = 0
 
 ofAddresses : ℕ
@@ -82,11 +87,11 @@ unfolding covers touches takesAway adds coversOrAdds hasEntry subtractive says c
 ofAddresses = 0
 
 ofListing : ℕ
-unfolding digits decimalDigit hexDigit decimalWidth decimal hex line unpadded onOff bootAp interruptName cpuLine busLine ioApicLine interruptLine baseLine mapLine treeLine modLine skipLine extendedLine defaultLine pointerLine tableLine endLine tableLines listing refusedLine programOutput listRefusal listed listLeft printRefusal printed printLeft
+unfolding digits decimalDigit hexDigit decimalWidth decimal hex line unpadded onOff bootAp interruptName cpuLine busLine ioApicLine interruptLine baseLine mapLine treeLine modLine skipLine extendedLine defaultLine pointerLine tableLine endLine tableLines listing refusedLine programOutput listRefusal listed listLeft printed printLeft
 ofListing = 0
 
 ofWriting : ℕ
-unfolding fieldsOf partsOf parted header extendedSumOf baseSumOf image earlyRefusal writeRefusal written writeLeft
+unfolding fieldsOf partsOf parted header extendedSumOf baseSumOf image partRules earlyRefusal writeRefusal written finished writeLeft
 ofWriting = 0
 
 ofEdits : ℕ
@@ -98,5 +103,5 @@ unfolding baseStep extendedStep sizeAt entryAt nextPlace found
 ofReader = 0
 
 unfoldable pub computed : ℕ
-unfolding ofWords ofRefusals ofSums ofNumbers ofLayout ofBuses ofRanges ofDump ofPointer ofTable ofRules ofSections ofJudge ofRoutes ofAddresses ofListing ofWriting ofEdits ofReader
+unfolding ofWords ofRefusals ofRooms ofSums ofNumbers ofLayout ofBuses ofRanges ofDump ofPointer ofTable ofRules ofSections ofJudge ofRoutes ofAddresses ofListing ofWriting ofEdits ofReader
 computed = 0

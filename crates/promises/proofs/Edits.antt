@@ -9,9 +9,9 @@ use native.Mathlib.Omega.{arith}
 use lib.ListN.{take, drop}
 use lib.Dec.{ltb, eqb}
 use borrow.Author.Tests.{eq-eqb, ne-eqb, eqb-true, ltb-false}
-use Rattle.mps.specs.Words.{among, any, each, head}
+use Rattle.mps.specs.Words.{among, any, each}
 use Rattle.mps.specs.Refusals.{Rule, _when_, refusal, innerNumber}
-use Rattle.mps.specs.Answers.{editedOf, editedNumbers}
+use Rattle.mps.specs.Answers.{numberOf, editedOf, editedNumbers}
 use Rattle.mps.specs.Judge.{tableRules, tableRefusal}
 use Rattle.mps.specs.Edits.{Edit, standing, editedTable, noPlace, otherShape, changed, innerRefusal, editRules, editRefusal, edited, editLeft}
 use Rattle.mps.specs.declared.Edited.{Edited}
@@ -23,13 +23,10 @@ use Rattle.accepted.proofs.Shaped.{Shaped, shape-passes, other-bytes}
 use Rattle.accepted.proofs.Replaced.{replaced-sound}
 use Rattle.editor.specs.Tested.{testRules}
 use Rattle.editor.proofs.Laws.{passed-tests, edit-none, edit-passes}
-use Rattle.promises.proofs.Answered.{edited-number}
+use Rattle.promises.proofs.Answered.{edited-of}
 use Rattle.promises.proofs.Given.{Exactly}
 
 -- ---- The answer and the number
-
-numberOf : Edited → ℕ
-numberOf r = head 0 (editedNumbers r)
 
 innerOf : Edited → ℕ
 innerOf Done = 0
@@ -37,26 +34,24 @@ innerOf (Refused n) = 0
 innerOf (Inner n) = n
 
 module _ (t : List ℕ) (e : Edit) where
-  number-edited : {r : Edited} → edited t e ≡ r → editRefusal t e ≡ numberOf r
-  unfolding edited numberOf
-  number-edited d = sym (edited-number (editRefusal t e) (innerRefusal t e)) ∙ ap numberOf d
+  number-edited : {r : Edited} → edited t e ≡ r → editRefusal t e ≡ numberOf (editedNumbers r)
+  unfolding edited
+  number-edited d = sym (edited-of (innerRefusal t e) (editRefusal t e)) ∙ ap (λ (r : Edited). numberOf (editedNumbers r)) d
 
   answered : {n : ℕ} → editRefusal t e ≡ n → edited t e ≡ editedOf n (innerRefusal t e)
   unfolding edited
   answered n = ap (λ (k : ℕ). editedOf k (innerRefusal t e)) n
 
   pub done-exactly : (edited t e ≡ Done) ↔ (editRefusal t e ≡ 0)
-  unfolding numberOf
   done-exactly = (number-edited, answered)
 
   -- A refusal is answered with its number, but for 23.
   pub edit-refused : (n : ℕ) → eqb (suc n) innerNumber ≡ false → (edited t e ≡ Refused (suc n)) ↔ (editRefusal t e ≡ suc n)
-  unfolding numberOf
   edit-refused n f = (number-edited, λ q. answered q ∙ rw f)
 
   -- "the inner number is given too": it is the edited table's.
   pub inner-exactly : (n : ℕ) → (edited t e ≡ Inner n) ↔ ((editRefusal t e ≡ innerNumber) × (innerRefusal t e ≡ n))
-  unfolding numberOf innerOf
+  unfolding innerOf
   inner-exactly n = (
     λ d. let k = number-edited d in (k, ap innerOf (sym (answered k) ∙ d)),
     λ h. answered (h .0) ∙ ap Inner (h .1),

@@ -11,7 +11,7 @@ use Rattle.mps.specs.Layout.{checksumAt, entryCount, extendedEnd, extendedPart,
 use Rattle.mps.specs.Judge.{tableRefusal}
 use Rattle.mps.specs.Writing.{fieldsOf, partsOf, written, writeLeft}
 use Rattle.mps.specs.Edits.{Edit, standing, offsetOf, editedTable, edited, editLeft}
-use Rattle.mps.specs.declared.Written.the-variants.{Bytes as Written·Bytes}
+use Rattle.mps.specs.declared.Lent.the-variants.{Count}
 use Rattle.mps.specs.declared.Edited.the-variants.{Done}
 use Rattle.laws.proofs.Small.{Bytes}
 use Rattle.accepted.proofs.Sound.{sound}
@@ -58,12 +58,12 @@ module _ (t u : List ℕ) (k : Kept t u) (b : Bytes u) (a : tableRefusal u ≡ 0
 
   pub kept-fresh :
       let p = partsWith t (baseEntries u) in
-      (written p t ≡ Written·Bytes (extendedEnd t)) × (writeLeft p t ≡ u)
+      (written p t ≡ Count (extendedEnd t)) × (writeLeft p t ≡ u)
   kept-fresh =
       let inside : extendedEnd t ≤ length u = rw (k .end) at (sound u a .extended-inside) in
       let w = written-again u b a t (rw (k .end, ← k .size) inside) in
       let l = length-take-le (extendedEnd t) u inside in (
-        rw (← kept-parts t u k) (w .0 ∙ ap Written·Bytes (k .end)),
+        rw (← kept-parts t u k) (w .0 ∙ ap Count (k .end)),
         rw (← kept-parts t u k) (w .1 ∙ rw (k .end, l) whole-again),
       )
 
@@ -104,7 +104,7 @@ module _ (t : List ℕ) (e : Edit) (d : edited t e ≡ Done) where
   -- entries": written over the table itself, they leave the same.
   pub edited-fresh : Bytes t → Bytes (e .wanted)
       → let p = partsWith t (set (baseEntries t) (e .place) (e .wanted)) in
-      (written p t ≡ Written·Bytes (extendedEnd t)) × (writeLeft p t ≡ editLeft t e)
+      (written p t ≡ Count (extendedEnd t)) × (writeLeft p t ≡ editLeft t e)
   edited-fresh b w = rw edited-entries at (kept-fresh t (editLeft t e) edited-kept (edited-bytes b w) edited-accepted)
 
   -- ".. and alters no byte outside that entry and the base checksum."

@@ -2,7 +2,7 @@
 -- judge answers it just then. Document 01: "For 10 to 12 the first faulty entry decides, then the lower number; the count is
 -- compared only where no entry is faulty." Assumes nothing.
 use Prim.Native.Nat.{ℕ, zero, suc, _<_}
-use mathlib.Core.Path.{_≡_, refl, sym, ap, _∙_}
+use mathlib.Core.Path.{_≡_, refl, sym, _∙_}
 use mathlib.Core.Bool.{true, false, not, _&&_, or-false}
 use mathlib.Core.List.{List, [], _∷_, _++_}
 use mathlib.Core.Logic.{_↔_}
@@ -12,14 +12,14 @@ use lib.Dec.{ltb, eqb}
 use borrow.Author.Tests.{eq-eqb, ne-eqb, eqb-true}
 use Rattle.mps.specs.Words.{among, any, each, first}
 use Rattle.mps.specs.Refusals.{Rule, _when_, refusal, typeNumber, cutNumber, orderNumber}
-use Rattle.mps.specs.Answers.{judgedOf}
+use Rattle.mps.specs.Answers.{judgedNumbers, judgedOf}
 use Rattle.mps.specs.Layout.{Entry, type, lastBaseType, baseEntryLength, entryCount, baseEntries}
 use Rattle.mps.specs.Table.{entryFault, walkFrom, walkFault, wrongType, cutOrMiscounted, descendingType}
 use Rattle.mps.specs.Judge.{tableRules, tableRefusal, judged}
 use Rattle.mps.specs.declared.Judged.the-variants.{Accepted, Refused}
 use Rattle.laws.proofs.Tests.{either, and-parts}
 use Rattle.laws.proofs.Refusals.{so, given-exactly, first-some, first-none}
-use Rattle.promises.proofs.Answered.{judged-refused, judged-accepted}
+use Rattle.promises.proofs.Answered.{exactly, judged-of}
 use Rattle.promises.proofs.Given.{Exactly, given-none, given-10, given-11, given-12}
 
 -- ---- The answer and the number
@@ -28,14 +28,15 @@ use Rattle.promises.proofs.Given.{Exactly, given-none, given-10, given-
 pub refused-exactly : (t : List ℕ) (n : ℕ) → 0 < n → (judged t ≡ Refused n) ↔ (tableRefusal t ≡ n)
 unfolding judged
 refused-exactly t zero p = absurd (omega (arith, p))
-refused-exactly t (suc n) p = (λ e. judged-refused (tableRefusal t) (suc n) e .1, λ e. ap judgedOf e)
+refused-exactly t (suc n) p = exactly judgedNumbers judgedOf judged-of (tableRefusal t) (suc n)
 
 -- and accepted exactly when no row is so.
 pub accepted-exactly : (t : List ℕ) → (judged t ≡ Accepted) ↔ (any so (tableRules t) ≡ false)
 unfolding judged
 accepted-exactly t =
     let none = given-none t in
-    (λ e. none .0 (judged-accepted (tableRefusal t) e), λ e. ap judgedOf (none .1 e))
+    let zero = exactly judgedNumbers judgedOf judged-of (tableRefusal t) 0 in
+    (λ e. none .0 (zero .0 e), λ e. zero .1 (none .1 e))
 
 -- ---- "the first faulty entry decides"
 

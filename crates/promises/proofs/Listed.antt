@@ -27,9 +27,10 @@ use Rattle.mps.specs.Listing.{baseLine, extendedLine, defaultLine, pointerLine,
 use Rattle.mps.specs.Listing.{refusedLine, programOutput, listRefusal, listed, listLeft}
 use Rattle.mps.specs.declared.Held.{Held}
 use Rattle.mps.specs.declared.Held.the-variants.{Default, Table, Refused}
-use Rattle.mps.specs.declared.Written.the-variants.{Bytes as Written·Bytes}
+use Rattle.mps.specs.declared.Lent.the-variants.{Count}
 use Rattle.laws.proofs.Tests.{whether, or-parts}
-use Rattle.laws.proofs.Refusals.{first-none, refusal-pass}
+use Rattle.laws.proofs.Refusals.{refusal-pass}
+use Rattle.laws.proofs.Lent.{count-given}
 use Rattle.laws.proofs.Lists.{any-keep}
 use Rattle.laws.proofs.Joined.{joined-append, joined-same, joined-each}
 use Rattle.laws.proofs.Small.{Bytes, Small, small-none, small-more, small-cut, bytes-part, any-or}
@@ -37,12 +38,11 @@ use Rattle.numbers.proofs.Laws.{le-below}
 use Rattle.accepted.proofs.Sound.{sound, sound-rest}
 use Rattle.dump.proofs.Laws.{held-table, held-default, held-number}
 use Rattle.dump.proofs.Narrow.{default-narrow, table-narrow}
-use Rattle.listing.specs.Fits.{tableText}
-use Rattle.listing.proofs.Laws.{table-text, default-text, dump-below, list-number}
+use Rattle.listing.specs.Texts.{tableText}
+use Rattle.listing.proofs.Laws.{table-text, default-text, dump-below, list-none}
 use Rattle.promises.specs.Shown.{Field, word, number, shown, Again, visible, readable, AllReadable, shownLines, lineOf}
 use Rattle.promises.specs.Shown.{states, ranks, kinds, interruptFields, baseFields, extendedFields, tableFields}
 use Rattle.promises.specs.Shown.{linesTold, readLines}
-use Rattle.promises.proofs.Answered.{written-bytes}
 use Rattle.promises.proofs.Kept.{list-shown}
 use Rattle.promises.proofs.Legible.{every-append, lines-again, lines-apart}
 use Rattle.promises.proofs.Legible.{word-readable, number-readable, address-readable, name-readable}
@@ -409,11 +409,10 @@ module _ (d : List ℕ) where
     output-told = rw output-lines (lines-apart (linesTold d (held d)) fields-readable)
 
     -- The same of the call: the bytes that it says it wrote.
-    pub list-told : (room : List ℕ) (n : ℕ) → listed d room ≡ Written·Bytes n
+    pub list-told : (room : List ℕ) (n : ℕ) → listed d room ≡ Count n
         → readLines (take n (listLeft d room)) ≡ shownLines (linesTold d (held d))
     unfolding listed
     list-told room n e =
-        let q = list-shown d room n e in
-        let z = written-bytes (listRefusal d room) (length (listing d)) n e .0 in
-        let none = first-none (dumpRefusal d) _ (sym (list-number d room) ∙ z) .0 in
-        rw (q .1, take-at (listing d) (drop n room) n (sym (q .0)), ← listing-output d none) output-told
+        let q = list-shown d room e in
+        let none = list-none d room (count-given (listRefusal d room) _ (sym e) .0) in
+        rw (q .1, take-at (listing d) _ n (sym (q .0)), ← listing-output d none) output-told

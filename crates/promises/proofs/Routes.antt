@@ -12,34 +12,34 @@ use lib.Dec.{ltb, eqb}
 use borrow.Author.Tests.{ltb-true, ltb-false}
 use Rattle.mps.specs.Words.{byte, among, any, every, keep, each, only, joined, twice, common}
 use Rattle.mps.specs.Layout.{Entry, processorType, ioApicType, everyone, localApicStep, localApic, ofType, enabled, idOf, input, baseEntries}
-use Rattle.mps.specs.Rules.{Side, ioSide, localSide, enabledOf, enabledIds, bootstraps, misplaced, wrongProcessors, wrongIoApics}
+use Rattle.mps.specs.Rules.{ioSide, localSide, enabledOf, enabledIds, bootstraps, misplaced, wrongProcessors, wrongIoApics}
 use Rattle.mps.specs.Judge.{tableRules, tableRefusal}
-use Rattle.mps.specs.Routes.{matches, names, pairSize, pair, pairsTo, routes, routesOf, wrongLine, roomTooSmall, routeRules, routeRefusal, routed, routesLeft}
-use Rattle.mps.specs.Answers.{routedOf}
-use Rattle.mps.specs.declared.Routed.{Routed}
-use Rattle.mps.specs.declared.Routed.the-variants.{Pairs, Refused}
+use Rattle.mps.specs.Refusals.{_when_}
+use Rattle.mps.specs.Rooms.{tooSmall, roomRules, lentRefusal}
+use Rattle.mps.specs.Routes.{Question, question, matches, names, pairSize, pair, pairsTo, routes, routesOf, wrongLine, lineRules, routeRefusal, routed, routesLeft}
+use Rattle.mps.specs.declared.Lent.the-variants.{Count}
 use Rattle.laws.proofs.Tests.{whether, and-parts, or-parts}
 use Rattle.laws.proofs.Lists.{among-first, among-rest, keep-keep, byte-right}
 use Rattle.laws.proofs.Joined.{joined-same, joined-keep, joined-each, joined-only}
 use Rattle.laws.proofs.Refusals.{so, refusal-pass, refusal-none, given-before, given-exactly}
+use Rattle.laws.proofs.Lent.{lent-19, left-put, count-given}
 use Rattle.accepted.proofs.Sound.{sound, sound-rest}
 use Rattle.promises.specs.Declared.{target, declares, declared, Route, Stands}
-use Rattle.promises.proofs.Answered.{routed-refused}
 use Rattle.promises.proofs.Given.{Exactly}
 
 -- ---- In order
 
-pub routes-declared : (side : Side) (es : List Entry) (itype bus irq : ℕ) → routes side es itype bus irq ≡ declared side itype bus irq es
+pub routes-declared : (q : Question) (es : List Entry) → routes q es ≡ declared q es
 unfolding routes declared pairsTo enabledOf declares target
-routes-declared side es itype bus irq =
-    joined-keep (pairsTo (enabledOf (side .targets) es)) (matches side itype bus irq) es
+routes-declared q es =
+    joined-keep (pairsTo (enabledOf (q .side .targets) es)) (matches q) es
     ∙ joined-same _ _ (λ e.
-    ap (only (matches side itype bus irq e))
-    (joined-each (pair e) idOf (keep (names e) (enabledOf (side .targets) es))
-    ∙ ap (λ (l : List Entry). joined (λ (a : Entry). pair e (idOf a)) (keep (names e) l)) (keep-keep enabled (ofType (side .targets)) es)
-    ∙ ap (joined (λ (a : Entry). pair e (idOf a))) (keep-keep (names e) (target side) es)
-    ∙ joined-keep (λ (a : Entry). pair e (idOf a)) (λ (a : Entry). target side a && names e a) es)
-    ∙ joined-only (matches side itype bus irq e) (λ (a : Entry). target side a && names e a) (λ (a : Entry). pair e (idOf a)) es) es
+    ap (only (matches q e))
+    (joined-each (pair e) idOf (keep (names e) (enabledOf (q .side .targets) es))
+    ∙ ap (λ (l : List Entry). joined (λ (a : Entry). pair e (idOf a)) (keep (names e) l)) (keep-keep enabled (ofType (q .side .targets)) es)
+    ∙ ap (joined (λ (a : Entry). pair e (idOf a))) (keep-keep (names e) (target (q .side)) es)
+    ∙ joined-keep (λ (a : Entry). pair e (idOf a)) (λ (a : Entry). target (q .side) a && names e a) es)
+    ∙ joined-only (matches q e) (λ (a : Entry). target (q .side) a && names e a) (λ (a : Entry). pair e (idOf a)) es) es
 
 -- ---- Exactly those
 
@@ -144,30 +144,30 @@ told-pair : (b : Bool) (e : Entry) (own id into : ℕ) → b ≡ true → own �
 unfolding pair
 told-pair b e own id into t p q = rw t (record { place = 0; there = omega arith; first = p; second = q })
 
-module _ (side : Side) (itype bus irq : ℕ) where
+module _ (q : Question) where
   one : Entry → Entry → List ℕ
-  one e a = only (declares side itype bus irq e a) (pair e (idOf a))
+  one e a = only (declares q e a) (pair e (idOf a))
 
   one-even : (e a : Entry) → Even (one e a)
   unfolding one
-  one-even e a = pair-even (declares side itype bus irq e a) e (idOf a)
+  one-even e a = pair-even (declares q e a) e (idOf a)
 
-module _ (side : Side) (itype bus irq : ℕ) (es : List Entry) where
-  line-even : (id into : ℕ) (e : Entry) → Even (joined (one side itype bus irq e) es)
-  line-even id into e = even-joined (one side itype bus irq e) (one-even side itype bus irq e) [] id into es
+module _ (q : Question) (es : List Entry) where
+  line-even : (id into : ℕ) (e : Entry) → Even (joined (one q e) es)
+  line-even id into e = even-joined (one q e) (one-even q e) [] id into es
 
-  declared-even : Even (declared side itype bus irq es)
+  declared-even : Even (declared q es)
   unfolding declared one
-  declared-even = even-joined (λ (e : Entry). joined (one side itype bus irq e) es) (line-even 0 0) [] 0 0 es
+  declared-even = even-joined (λ (e : Entry). joined (one q e) es) (line-even 0 0) [] 0 0 es
 
-  declared-exactly : (id into : ℕ) → PairIn (declared side itype bus irq es) id into ↔ Route side itype bus irq es id into
+  declared-exactly : (id into : ℕ) → PairIn (declared q es) id into ↔ Route q es id into
   unfolding declared one
   declared-exactly id into =
-      let line : Entry → List ℕ = λ (e : Entry). joined (one side itype bus irq e) es in
+      let line : Entry → List ℕ = λ (e : Entry). joined (one q e) es in
       let even = line-even id into in (
         λ h.
             let i = pair-in-at line even [] id into es h in
-            let j = pair-in-at (one side itype bus irq (getD es (i .place) [])) (one-even side itype bus irq (getD es (i .place) [])) [] id into es (i .within) in
+            let j = pair-in-at (one q (getD es (i .place) [])) (one-even q (getD es (i .place) [])) [] id into es (i .within) in
             let k = pair-told _ (getD es (i .place) []) (idOf (getD es (j .place) [])) id into (j .within) in
             record {
               line = i .place;
@@ -181,49 +181,38 @@ module _ (side : Side) (itype bus irq : ℕ) (es : List Entry) where
         λ r.
             let e = getD es (r .line) [] in
             at-pair-in line even [] id into es (r .line) (r .line-there)
-            (at-pair-in (one side itype bus irq e) (one-even side itype bus irq e) [] id into es (r .apic) (r .apic-there)
+            (at-pair-in (one q e) (one-even q e) [] id into es (r .apic) (r .apic-there)
             (told-pair _ e (idOf (getD es (r .apic) [])) id into (r .route) (r .named) (r .entered))),
       )
 
 -- ---- The calls: each that a contract allows answers `routed` and leaves `routesLeft`
 
-countOf : Routed → ℕ
-countOf (Pairs n) = n
-countOf (Refused n) = 0
+module _ (q : Question) (t room : List ℕ) {n : ℕ} (r : routed q t room ≡ Count n) where
+  -- What is answered, and of which call.
+  counted : (routeRefusal q t room ≡ 0) × (n ≡ length (routesOf q t) / pairSize)
+  unfolding routed
+  counted = count-given _ _ (sym r)
 
-isPairs : Routed → Bool
-isPairs (Pairs n) = true
-isPairs (Refused n) = false
-
-pairs-told : (m count n : ℕ) → routedOf m count ≡ Pairs n → (m ≡ 0) × (count ≡ n)
-unfolding countOf isPairs
-pairs-told zero count n e = (refl, ap countOf e)
-pairs-told (suc m) count n e = absurd (false≢true (ap isPairs e))
-
-module _ (side : Side) (t : List ℕ) (itype bus irq : ℕ) (room : List ℕ) {n : ℕ} (r : routed side t itype bus irq room ≡ Pairs n) where
   -- The count is that of the pairs.
-  pub routes-count : length (declared side itype bus irq (baseEntries t)) ≡ n * pairSize
-  unfolding routed routesOf
+  pub routes-count : length (declared q (baseEntries t)) ≡ n * pairSize
+  unfolding routesOf
   routes-count =
       let es = baseEntries t in
-      let k = pairs-told (routeRefusal side t itype bus irq room) (length (routesOf side t itype bus irq) / 2) n r .1 in
-      let d = declared-even side itype bus irq es in
-      omega (arith, d .1, rw (routes-declared side es itype bus irq) at k)
+      let d = declared-even q es in
+      omega (arith, d .1, rw (routes-declared q es) at (counted .1))
 
   -- The pairs of an answer stand from the room's first byte on, in the order of the table; what lies past them stays.
-  pub routes-in-order : routesLeft side t itype bus irq room ≡ declared side itype bus irq (baseEntries t) ++ drop (n * pairSize) room
-  unfolding routed routesLeft routesOf
-  routes-in-order =
-      let k = pairs-told (routeRefusal side t itype bus irq room) (length (routesOf side t itype bus irq) / 2) n r .0 in
-      rw (k, routes-declared side (baseEntries t) itype bus irq, routes-count)
+  pub routes-in-order : routesLeft q t room ≡ declared q (baseEntries t) ++ drop (n * pairSize) room
+  unfolding routesLeft routesOf
+  routes-in-order = rw (counted .0, routes-declared q (baseEntries t), left-put (declared q (baseEntries t)) room, routes-count)
 
   -- A pair is in the answer exactly when some matching entry names that enabled one with that input.
-  pub routes-exactly : (id into : ℕ) → Stands n (routesLeft side t itype bus irq room) id into ↔ Route side itype bus irq (baseEntries t) id into
+  pub routes-exactly : (id into : ℕ) → Stands n (routesLeft q t room) id into ↔ Route q (baseEntries t) id into
   routes-exactly id into =
       let es = baseEntries t in
-      let all = declared side itype bus irq es in
+      let all = declared q es in
       let rest = drop (n * 2) room in
-      let d = declared-exactly side itype bus irq es id into in
+      let d = declared-exactly q es id into in
       let c = routes-count in (
         λ s.
             let h = s .there in
@@ -233,8 +222,8 @@ module _ (side : Side) (t : List ℕ) (itype bus irq : ℕ) (room : List ℕ) {n
               first = sym (List·getD-append all rest 0 (s .place * 2) (omega arith)) ∙ rw routes-in-order at (s .first);
               second = sym (List·getD-append all rest 0 (s .place * 2 + 1) (omega arith)) ∙ rw routes-in-order at (s .second);
             }),
-        λ q.
-            let k = d .1 q in
+        λ p.
+            let k = d .1 p in
             let h = k .there in
             record {
               place = k .place;
@@ -261,16 +250,16 @@ enabled-among n (e ∷ es) (suc k) h t =
     (λ a. whether (enabled e) (λ b. rw (a, b) (among-rest _ (idOf e) _ r)) (λ b. rw (a, b) r))
     (λ a. rw a r)
 
-module _ (side : Side) (t : List ℕ) (own : among everyone (enabledIds (side .targets) (baseEntries t)) ≡ false) where
-  no-everyone : (itype bus irq id into : ℕ) → Route side itype bus irq (baseEntries t) id into → id ≡ everyone → ⊥
+module _ (q : Question) (t : List ℕ) (own : among everyone (enabledIds (q .side .targets) (baseEntries t)) ≡ false) where
+  no-everyone : (id into : ℕ) → Route q (baseEntries t) id into → id ≡ everyone → ⊥
   unfolding declares target
-  no-everyone itype bus irq id into r q =
+  no-everyone id into r h =
       let e = getD (baseEntries t) (r .line) [] in
       let a = getD (baseEntries t) (r .apic) [] in
-      let both = and-parts (matches side itype bus irq e) ((ofType (side .targets) a && enabled a) && names e a) (r .route) in
-      let is = and-parts (ofType (side .targets) a && enabled a) (names e a) (both .1) in
-      let m = enabled-among (side .targets) (baseEntries t) (r .apic) (r .apic-there) (is .0) in
-      false≢true (sym own ∙ rw (r .named, q) at m)
+      let both = and-parts (matches q e) ((ofType (q .side .targets) a && enabled a) && names e a) (r .route) in
+      let is = and-parts (ofType (q .side .targets) a && enabled a) (names e a) (both .1) in
+      let m = enabled-among (q .side .targets) (baseEntries t) (r .apic) (r .apic-there) (is .0) in
+      false≢true (sym own ∙ rw (r .named, h) at m)
 
 -- 14 and 16: "ID 255" is refused.
 own-ids :
@@ -291,44 +280,31 @@ own-ids t a =
     (or-parts boots (among everyone (enabledIds processorType es)) (once .0) .1, or-parts (among everyone ids) (twice ids) (shared .0) .0)
 
 module _ (t : List ℕ) (a : tableRefusal t ≡ 0) (itype bus irq id into : ℕ) where
-  pub io-never-255 : Route ioSide itype bus irq (baseEntries t) id into → id ≡ everyone → ⊥
-  io-never-255 = no-everyone ioSide t (own-ids t a .1) itype bus irq id into
+  pub io-never-255 : Route (question ioSide itype bus irq) (baseEntries t) id into → id ≡ everyone → ⊥
+  io-never-255 = no-everyone (question ioSide itype bus irq) t (own-ids t a .1) id into
 
-  pub local-never-255 : Route localSide itype bus irq (baseEntries t) id into → id ≡ everyone → ⊥
-  local-never-255 = no-everyone localSide t (own-ids t a .0) itype bus irq id into
+  pub local-never-255 : Route (question localSide itype bus irq) (baseEntries t) id into → id ≡ everyone → ⊥
+  local-never-255 = no-everyone (question localSide itype bus irq) t (own-ids t a .0) id into
 
 -- ---- The numbers
 
-module _ (side : Side) (t : List ℕ) (itype bus irq : ℕ) (room : List ℕ) where
+module _ (q : Question) (t room : List ℕ) where
   -- Answered: no row is so.
-  pub route-none : (routeRefusal side t itype bus irq room ≡ 0) ↔ (any so (routeRules side t itype bus irq room) ≡ false)
-  unfolding routeRefusal routeRules tableRules among each
-  route-none = refusal-none (routeRules side t itype bus irq room) refl
+  pub route-none : (routeRefusal q t room ≡ 0) ↔ (any so (roomRules (lineRules q t) (tooSmall (length (routesOf q t)) room)) ≡ false)
+  unfolding routeRefusal lentRefusal roomRules lineRules tableRules among each
+  route-none = refusal-none (roomRules (lineRules q t) (tooSmall (length (routesOf q t)) room)) refl
 
   -- The table's own, before all else.
-  pub route-table : (n : ℕ) → 0 < n → among n (24 ∷ 19 ∷ []) ≡ false → (routeRefusal side t itype bus irq room ≡ n) ↔ (tableRefusal t ≡ n)
-  unfolding routeRefusal routeRules tableRefusal tableRules among each
-  route-table n p q = given-before (tableRules t) (drop 14 (routeRules side t itype bus irq room)) refl n p q
+  pub route-table : (n : ℕ) → 0 < n → among n (24 ∷ 19 ∷ []) ≡ false → (routeRefusal q t room ≡ n) ↔ (tableRefusal t ≡ n)
+  unfolding routeRefusal lentRefusal roomRules lineRules tableRefusal tableRules among each
+  route-table n p h = given-before (tableRules t) (24 when wrongLine q t ∷ 19 when tooSmall (length (routesOf q t)) room ∷ []) refl n p h
 
   -- 24: "query: bus not listed .. or interrupt type over 3"
-  pub route-24 : Exactly (routeRefusal side t itype bus irq room) 24 (tableRules t) (wrongLine t itype bus)
-  unfolding routeRefusal routeRules tableRules among each
-  route-24 =
-      given-exactly (tableRules t) 24 (wrongLine t itype bus)
-      (drop 15 (routeRules side t itype bus irq room)) (omega arith) refl refl
+  pub route-24 : Exactly (routeRefusal q t room) 24 (tableRules t) (wrongLine q t)
+  unfolding routeRefusal lentRefusal roomRules lineRules tableRules among each
+  route-24 = given-exactly (tableRules t) 24 (wrongLine q t) (19 when tooSmall (length (routesOf q t)) room ∷ []) (omega arith) refl refl
 
   -- 19: "answer longer than the lent room"
-  pub route-19 : Exactly (routeRefusal side t itype bus irq room) 19 (take 15 (routeRules side t itype bus irq room))
-      (roomTooSmall side t itype bus irq room)
-  unfolding routeRefusal routeRules tableRules among each
-  route-19 =
-      given-exactly (take 15 (routeRules side t itype bus irq room)) 19 (roomTooSmall side t itype bus irq room) []
-      (omega arith) refl refl
-
-  -- A refusal is answered with its number; that it writes nothing is routes-kept (Kept).
-  pub route-refused : (n : ℕ) → (routed side t itype bus irq room ≡ Refused (suc n)) ↔ (routeRefusal side t itype bus irq room ≡ suc n)
-  unfolding routed
-  route-refused n = (
-    λ e. routed-refused (routeRefusal side t itype bus irq room) (length (routesOf side t itype bus irq) / 2) (suc n) e .1,
-    λ e. rw e,
-  )
+  pub route-19 : Exactly (routeRefusal q t room) 19 (lineRules q t) (tooSmall (length (routesOf q t)) room)
+  unfolding routeRefusal lineRules tableRules among each
+  route-19 = lent-19 (lineRules q t) (tooSmall (length (routesOf q t)) room) refl

@@ -8,7 +8,7 @@ use Rattle.mps.specs.Layout.{extendedEnd, baseEntries}
 use Rattle.mps.specs.Judge.{tableRefusal}
 use Rattle.mps.specs.Writing.{written, writeLeft}
 use Rattle.mps.specs.Edits.{Edit, edited, editLeft, run, runAnswers}
-use Rattle.mps.specs.declared.Written.the-variants.{Bytes as Written·Bytes}
+use Rattle.mps.specs.declared.Lent.the-variants.{Count}
 use Rattle.mps.specs.declared.Edited.{Edited}
 use Rattle.mps.specs.declared.Edited.the-variants.{Done, Refused, Inner}
 use Rattle.laws.proofs.Small.{Bytes, Small, small-more}
@@ -98,7 +98,7 @@ module _ (t v : List ℕ) (es : List Edit) (rs : List Edited) (c : Calls t es rs
   -- and all of it is what the writer makes afresh of them and of the first one's other parts.
   pub calls-fresh : Good t → Small (wantedOf es)
       → let p = partsWith t (putIn (baseEntries t) (accepted es rs)) in
-      (written p t ≡ Written·Bytes (extendedEnd t)) × (writeLeft p t ≡ v)
+      (written p t ≡ Count (extendedEnd t)) × (writeLeft p t ≡ v)
   calls-fresh g s =
       let h = calls-run c in
       let u = run-good t es g s in

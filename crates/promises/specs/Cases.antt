@@ -10,11 +10,11 @@ use Rattle.mps.specs.Ranges.{inList}
 use Rattle.mps.specs.Layout.{checksumAt, baseBytes, basePart}
 use Rattle.mps.specs.Judge.{judged, held}
 use Rattle.mps.specs.Rules.{ioSide}
-use Rattle.mps.specs.Routes.{routed, routesLeft}
+use Rattle.mps.specs.Routes.{Question, question, routed, routesLeft}
 use Rattle.mps.specs.Addresses.{seen}
 use Rattle.mps.specs.Writing.{fieldsOf, image}
 use Rattle.mps.specs.Edits.{Edit, edited, editLeft}
-use Rattle.mps.specs.Answers.{judgedNumbers, heldNumbers, routedNumbers, seenNumbers, editedNumbers}
+use Rattle.mps.specs.Answers.{judgedNumbers, heldNumbers, lentNumbers, seenNumbers, editedNumbers}
 use Rattle.promises.specs.Board.{contents, pointer, table, interrupt, bareHeader}
 
 pub record Row : Type 0 where
@@ -33,6 +33,10 @@ gives a b = record { got = a; wanted = b }
 -- A room of four bytes that hold EEh.
 abbrev room : List ℕ
 room = replicate 4 0xee
+
+-- INT, bus 0, and an IRQ, of the I/O side.
+abbrev irq : ℕ → Question
+irq n = question ioSide 0 0 n
 
 -- To input 9 at a place, stating the bytes of the board's place 3.
 abbrev pub toInput9 : ℕ → Edit
@@ -74,8 +78,8 @@ cases =
     gives (sum256 (baseBytes table) ∷ []) (0 ∷ [])
     ∷ gives (sum256 pointer ∷ []) (0 ∷ [])
     -- P3 route INT, bus 0, IRQ 1: (2,1). P4 IRQ 2: none.
-    ∷ gives (routedNumbers (routed ioSide table 0 0 1 room) ++ routesLeft ioSide table 0 0 1 room) (0 ∷ 1 ∷ 2 ∷ 1 ∷ 0xee ∷ 0xee ∷ [])
-    ∷ gives (routedNumbers (routed ioSide table 0 0 2 room) ++ routesLeft ioSide table 0 0 2 room) (0 ∷ 0 ∷ room)
+    ∷ gives (lentNumbers (routed (irq 1) table room) ++ routesLeft (irq 1) table room) (0 ∷ 1 ∷ 2 ∷ 1 ∷ 0xee ∷ 0xee ∷ [])
+    ∷ gives (lentNumbers (routed (irq 2) table room) ++ routesLeft (irq 2) table room) (0 ∷ 0 ∷ room)
     -- P5 edit place 3 to input 9: byte 7 is B8h. P6 the same edit again, still stating input 1: 22. P7 place 5: 20.
     ∷ gives (editedNumbers (edited table (toInput9 3)) ++ (byte after checksumAt ∷ [])) (0 ∷ 0xb8 ∷ [])
     ∷ gives (editedNumbers (edited after (toInput9 3)) ++ editLeft after (toInput9 3)) (22 ∷ after)

@@ -7,29 +7,29 @@ use lib.ListN.{length, getD}
 use Rattle.mps.specs.Words.{byte, only, joined}
 use Rattle.mps.specs.Layout.{Entry, ofType, enabled, idOf, input}
 use Rattle.mps.specs.Rules.{Side}
-use Rattle.mps.specs.Routes.{matches, names, pairSize, pair}
+use Rattle.mps.specs.Routes.{Question, matches, names, pairSize, pair}
 
 -- Whether an entry is a target of a side that is enabled: "every enabled I/O APIC"; "enabled processors".
 unfoldable pub target : Side → Entry → Bool
 target side a = ofType (side .targets) a && enabled a
 
 -- Whether two entries of a table declare a route: the one is asked about, and names the other.
-unfoldable pub declares : Side → ℕ → ℕ → ℕ → Entry → Entry → Bool
-declares side itype bus irq e a = matches side itype bus irq e && (target side a && names e a)
+unfoldable pub declares : Question → Entry → Entry → Bool
+declares q e a = matches q e && (target (q .side) a && names e a)
 
 -- "entries in table order, and in each entry every enabled I/O APIC it names, in table order": all entries with all entries,
 -- the first by the second, and the pair of those that declare a route.
-unfoldable pub declared : Side → ℕ → ℕ → ℕ → List Entry → List ℕ
-declared side itype bus irq es =
-    joined (λ (e : Entry). joined (λ (a : Entry). only (declares side itype bus irq e a) (pair e (idOf a))) es) es
+unfoldable pub declared : Question → List Entry → List ℕ
+declared q es =
+    joined (λ (e : Entry). joined (λ (a : Entry). only (declares q e a) (pair e (idOf a))) es) es
 
 -- A route of an ID and an input: the entries at two places of the table declare it.
-pub record Route (side : Side) (itype bus irq : ℕ) (es : List Entry) (id into : ℕ) : Type 0 where
+pub record Route (q : Question) (es : List Entry) (id into : ℕ) : Type 0 where
   pub line : ℕ
   pub apic : ℕ
   pub line-there : line < length es
   pub apic-there : apic < length es
-  pub route : declares side itype bus irq (getD es line []) (getD es apic []) ≡ true
+  pub route : declares q (getD es line []) (getD es apic []) ≡ true
   pub named : idOf (getD es apic []) ≡ id
   pub entered : input (getD es line []) ≡ into
 

@@ -11,9 +11,9 @@ tableNumbers = 5 ∷ 6 ∷ 7 ∷ 8 ∷ 9 ∷ 10 ∷ 11 ∷ 12 ∷ 13 ∷ 14 ∷ 
 abbrev pub pointerNumbers : List ℕ
 pointerNumbers = 1 ∷ 2 ∷ 3 ∷ 4 ∷ []
 
--- "Edits test the table, then 20 to 23": 23 is another answer, with its inner number.
+-- "Edits test the table, then 20 to 23"
 abbrev pub editNumbers : List ℕ
-editNumbers = tableNumbers ++ (20 ∷ 21 ∷ 22 ∷ [])
+editNumbers = tableNumbers ++ (20 ∷ 21 ∷ 22 ∷ 23 ∷ [])
 
 -- "queries test the table, then 24, then 19": an address query has no room.
 abbrev pub addressNumbers : List ℕ

@@ -11,7 +11,7 @@ use borrow.Author.Tests.{lt-ltb, le-ltb, ne-eqb}
 use Rattle.mps.specs.Refusals.{refusal}
 use Rattle.mps.specs.Layout.{partMost, baseLength, extendedLength}
 use Rattle.mps.specs.Judge.{tableRefusal}
-use Rattle.mps.specs.Rooms.{tooSmall, lentRefusal}
+use Rattle.mps.specs.Rooms.{tooSmall, roomRules, lentRefusal}
 use Rattle.mps.specs.Writing.{Parts, baseSize, image, imageSize, partRules, earlyRefusal, writeRefusal, written, finished, writeLeft, parted}
 use Rattle.mps.specs.declared.Lent.the-variants.{Count, Refused}
 use Rattle.mps.specs.declared.Parted.the-variants.{Parts as Parted·Parts, Refused as Parted·Refused}
@@ -38,30 +38,33 @@ module _ (p : Parts) (room : List ℕ) where
   early {n} e z = (rw (e, first-some n (tableRefusal (image p)) z) (lent-refused n _ z), rw e (sym (left-kept n _ room z)))
 
   pub write-base : partMost < baseSize p → (Refused 7 ≡ written p room) × (room ≡ writeLeft p room)
-  unfolding earlyRefusal partRules lentRefusal refusal
+  unfolding earlyRefusal partRules lentRefusal roomRules refusal
   write-base h = early (rw (lt-ltb partMost (baseSize p) h)) (λ z. omega (arith, z))
 
   module _ (b : baseSize p ≤ partMost) where
     pub write-extended : partMost < length (p .extended) → (Refused 13 ≡ written p room) × (room ≡ writeLeft p room)
-    unfolding earlyRefusal partRules lentRefusal refusal
+    unfolding earlyRefusal partRules lentRefusal roomRules refusal
     write-extended h =
         early (rw (le-ltb partMost (baseSize p) b, lt-ltb partMost (length (p .extended)) h)) (λ z. omega (arith, z))
 
     module _ (x : length (p .extended) ≤ partMost) where
       -- What its room decides.
       by-room : {small : Bool} → tooSmall (imageSize p) room ≡ small → earlyRefusal p room ≡ lentRefusal [] small
-      unfolding earlyRefusal partRules lentRefusal refusal
+      unfolding earlyRefusal partRules lentRefusal roomRules refusal
       by-room e = rw (le-ltb partMost (baseSize p) b, le-ltb partMost (length (p .extended)) x, e)
 
       pub write-room : length room < imageSize p → (Refused 19 ≡ written p room) × (room ≡ writeLeft p room)
-      unfolding lentRefusal refusal tooSmall
+      unfolding lentRefusal roomRules refusal tooSmall
       write-room h = early (by-room (lt-ltb (length room) (imageSize p) h)) (λ z. omega (arith, z))
+
+      pub write-none : imageSize p ≤ length room → earlyRefusal p room ≡ 0
+      unfolding lentRefusal roomRules refusal tooSmall
+      write-none h = by-room (le-ltb (length room) (imageSize p) h)
 
       -- What is written, and judged there: it stays, or becomes 0.
       module _ (h : imageSize p ≤ length room) {n : ℕ} {v : List ℕ} (j : n ≡ tableRefusal (image p)) (w : v ≡ image p) where
         none : earlyRefusal p room ≡ 0
-        unfolding lentRefusal refusal tooSmall
-        none = by-room (le-ltb (length room) (imageSize p) h)
+        none = write-none h
 
         left : writeLeft p room ≡ finished p ++ drop (imageSize p) room
         unfolding writeLeft
