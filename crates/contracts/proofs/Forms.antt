@@ -25,6 +25,10 @@ abbrev pub Determines : {K : Type 0} {A R S : K → Type 0} {X : Type 0} → ((�
 Determines {K} {A} {R} {S} P left =
     (κ : K) (a : A κ) (x y : R κ) (s t : S κ) → P κ a x s → P κ a y t → (x ≡ y) × (left κ s ≡ left κ t)
 
+-- The contents of two rooms, where a call is lent two.
+abbrev pub both : {X Y : Type 0} → X → Y → X × Y
+both x y = (x, y)
+
 -- A contract over a slice of records, or over a struct that holds a reference: the borrow checker does not read it, so it is
 -- taken as the logic has it. What it ensures of one result, together with what it ensures of another, says that the two
 -- are equal. (What these contracts ensure are facts and own nothing, so that both can hold at once.)
