@@ -1,7 +1,3 @@
-pub mod Computed
-pub mod Printed
-pub mod Cases
-pub mod Bench
 pub mod Answered
 pub mod Given
 pub mod Judge
@@ -18,4 +14,3 @@ pub mod Listed
 pub mod Fresh
 pub mod Runs
 pub mod Back
-pub mod Determined

@@ -2,7 +2,6 @@
 use Prim.Native.Nat.{ℕ}
 use mathlib.Core.Path.{_≡_, refl, ap, _∙_}
 use mathlib.Core.List.{List, [], _∷_}
-use denote.Ref.{now}
 use Rattle.mps.specs.Words.{each}
 use Rattle.mps.specs.Layout.{extendedEnd, baseEntries}
 use Rattle.mps.specs.Judge.{tableRefusal}
@@ -12,26 +11,14 @@ use Rattle.mps.specs.declared.Lent.the-variants.{Count}
 use Rattle.mps.specs.declared.Edited.{Edited}
 use Rattle.mps.specs.declared.Edited.the-variants.{Done, Refused, Inner}
 use Rattle.laws.proofs.Small.{Bytes, Small, small-more}
-use Rattle.editor.specs.Tested.{editOf}
-use Rattle.editor.proofs.edit.Reads as edit
 use Rattle.promises.specs.Runs.{accepted, putIn, partsWith}
 use Rattle.promises.proofs.Edits.{done-accepted, done-or, refused-unchanged}
 use Rattle.promises.proofs.Fresh.{Kept, kept-all, kept-then, kept-fresh, edited-kept, edited-accepted, edited-bytes, edited-entries}
 
 -- ---- A run of calls is a run of the definition
 
--- What the contract of `editor::edit` says of one call, as the toolchain reads it.
-abbrev pub Says : {K : Type 0} {A R S : K → Type 0} → ((κ : K) → A κ → R κ → S κ → Type 0) → ((κ : K) → A κ → R κ → S κ → Type 0) → Type 0
-Says {K} {A} {R} {S} P Q = (κ : K) (a : A κ) (r : R κ) (s : S κ) → P κ a r s → Q κ a r s
-
-pub edit-says :
-    Says edit.Post
-    (λ κ a r s. let t = now (a .0) in
-    let e = editOf (a .1 .0) (now (a .1 .1 .0)) (now (a .1 .1 .1 .0)) in
-    (r ≡ edited t e) × (now (s .0) ≡ editLeft t e))
-edit-says κ a r s p = p
-
--- Calls made one after another, of each of which that is so.
+-- Calls made one after another, each answered and left as the definitions say. That the editor's calls are such, from Rattle and
+-- from C, is `contracts`, Calls.
 pub data Calls : List ℕ → List Edit → List Edited → List ℕ → Type 0 where
   no-call : {t : List ℕ} → Calls t [] [] t
   call : {t u v : List ℕ} {e : Edit} {es : List Edit} {r : Edited} {rs : List Edited}

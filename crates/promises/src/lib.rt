@@ -1,16 +1,14 @@
 // Promises: theorems that speak of several floors of the house at once. docs/PROMISES.md goes through the three demands
-// clause by clause and names the theorem of each.
+// clause by clause and names the theorem of each. What is computed on the bench board stands in `board`, what is said of
+// contracts in `contracts`.
 //
-// specs/ states what they speak of beside the definitions of mps: the bench board and its printed listing, the rows P1 to
-// P12, the numbers that each call may give (Numbered), the routes that a table declares (Declared), the links that an
-// answer has climbed (Climbed), the fields that a listing shows and how they are read again (Shown), and what a run of edits
-// makes (Runs). proofs/ has
-// - computed: the printed listing, P1 to P12 and the other calls on the board (Printed, Cases, Bench);
+// specs/ states what they speak of beside the definitions of mps: the numbers that each call may give (Numbered), the routes
+// that a table declares (Declared), the links that an answer has climbed (Climbed), the fields that a listing shows and how
+// they are read again (Shown), and what a run of edits makes (Runs). proofs/ has
 // - demand 1: the numbers of every call (Numbered) and what a refusal leaves (Kept);
 // - demand 2: "given exactly when" for 1 to 18 (Given), that the judge answers that number and what decides among 10 to 12
 //   (Judge); that a listing's lines are those of the table (Listed) and can be read again (Legible); that the routes are those
 //   that the table declares (Routes); the parent's answer and the links climbed (Addresses), by a falling number that never
 //   runs out (Climb); writing and reading again (Headers, Again); the reader's own stand beside its code (reader, Walk);
 // - demand 3: refused as changed exactly when (Edits), the same as written afresh and no other byte (Fresh), over any run
-//   (Runs), changed and changed back (Back);
-// - that every public contract determines its answer and what it leaves (Determined).
+//   (Runs), changed and changed back (Back).

@@ -1,3 +1,4 @@
+-- Made by .ci/lists: change the sources and run it again.
 -- Computing with the definitions: `unfolding computed` opens every definition of mps at once, so that a claim over closed
 -- bytes is settled by computing both sides. What a definition's own `unfolding` line names is opened with it.
 use Prim.Native.Nat.{ℕ}

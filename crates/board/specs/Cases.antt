@@ -15,7 +15,7 @@ use Rattle.mps.specs.Addresses.{seen}
 use Rattle.mps.specs.Writing.{fieldsOf, image}
 use Rattle.mps.specs.Edits.{Edit, edited, editLeft}
 use Rattle.mps.specs.Answers.{judgedNumbers, heldNumbers, lentNumbers, seenNumbers, editedNumbers}
-use Rattle.promises.specs.Board.{contents, pointer, table, interrupt, bareHeader}
+use Rattle.board.specs.Board.{contents, pointer, table, interrupt, bareHeader}
 
 pub record Row : Type 0 where
   pub got : List ℕ

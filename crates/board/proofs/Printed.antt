@@ -4,9 +4,9 @@ use mathlib.Core.List.{[], _∷_}
 use Rattle.mps.specs.Listing.{listing}
 use Rattle.mps.specs.Judge.{held}
 use Rattle.mps.specs.Answers.{heldNumbers}
-use Rattle.promises.specs.Board.{dump}
-use Rattle.promises.specs.Printed.{printed}
-use Rattle.promises.proofs.Computed.{computed}
+use Rattle.board.specs.Board.{dump}
+use Rattle.board.specs.Printed.{printed}
+use Rattle.board.proofs.Computed.{computed}
 
 pub board-listed : listing dump ≡ printed
 unfolding computed printed

@@ -12,10 +12,10 @@ use Rattle.mps.specs.Writing.{Parts, fieldsOf, partsOf, parted, image, written,
 use Rattle.mps.specs.Edits.{Edit, edited, editLeft, runAnswers}
 use Rattle.mps.specs.Reader.{found, nextPlace}
 use Rattle.mps.specs.Answers.{judgedNumbers, examinedNumbers, lentNumbers, seenNumbers, partedNumbers, editedNumbers, foundNumbers}
-use Rattle.promises.specs.Board.{table, dump, interrupt}
-use Rattle.promises.specs.Cases.{toInput9, dumpWithChecksum}
-use Rattle.promises.specs.Printed.{printed}
-use Rattle.promises.proofs.Computed.{computed}
+use Rattle.board.specs.Board.{table, dump, interrupt}
+use Rattle.board.specs.Cases.{toInput9, dumpWithChecksum}
+use Rattle.board.specs.Printed.{printed}
+use Rattle.board.proofs.Computed.{computed}
 
 -- The judge accepts it.
 pub board-judged : judgedNumbers (judged table) ≡ 0 ∷ []

@@ -1,0 +1,4 @@
+pub mod Computed
+pub mod Printed
+pub mod Cases
+pub mod Bench

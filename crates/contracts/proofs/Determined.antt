@@ -1,0 +1,404 @@
+-- Made by .ci/lists: change the sources and run it again.
+-- Each public function's contract determines what is returned and what is left of what was lent, on any input: two results
+-- that it allows are equal (Forms). Assumes nothing.
+use mathlib.Core.Path.{sym, _∙_}
+use denote.Ref.{now}
+use Rattle.contracts.proofs.Forms.{Answers, Leaves, Determines, Decides, both, both-are}
+use Rattle.sums.proofs.sum.Reads as sums-sum
+use Rattle.sums.proofs.to_store.Reads as sums-to-store
+use Rattle.numbers.proofs.byte.Reads as numbers-byte
+use Rattle.numbers.proofs.wide.Reads as numbers-wide
+use Rattle.numbers.proofs.le16.Reads as numbers-le16
+use Rattle.numbers.proofs.le32.Reads as numbers-le32
+use Rattle.numbers.proofs.le64.Reads as numbers-le64
+use Rattle.numbers.proofs.put16.Reads as numbers-put16
+use Rattle.numbers.proofs.put32.Reads as numbers-put32
+use Rattle.numbers.proofs.put64.Reads as numbers-put64
+use Rattle.slices.proofs.same.Reads as slices-same
+use Rattle.slices.proofs.copy.Reads as slices-copy
+use Rattle.slices.proofs.clear.Reads as slices-clear
+use Rattle.tables.proofs.names.is_bus_name.Reads as tables-names-is-bus-name
+use Rattle.tables.proofs.ranges.ranges.Reads as tables-ranges-ranges
+use Rattle.sets.proofs.empty.Reads as sets-empty
+use Rattle.sets.proofs.put.Reads as sets-put
+use Rattle.sets.proofs.contains.Reads as sets-contains
+use Rattle.entries.proofs.size.Reads as entries-size
+use Rattle.entries.proofs.count.Reads as entries-count
+use Rattle.entries.proofs.offset.Reads as entries-offset
+use Rattle.header.proofs.refusal.Reads as header-refusal
+use Rattle.header.proofs.wrong_extended.Reads as header-wrong-extended
+use Rattle.sections.proofs.base.Reads as sections-base
+use Rattle.sections.proofs.extended.Reads as sections-extended
+use Rattle.apics.proofs.claim.Reads as apics-claim
+use Rattle.apics.proofs.wrong_boot.Reads as apics-wrong-boot
+use Rattle.apics.proofs.misplaced.Reads as apics-misplaced
+use Rattle.buses.proofs.list.Reads as buses-list
+use Rattle.buses.proofs.is_listed.Reads as buses-is-listed
+use Rattle.interrupts.proofs.wrong.Reads as interrupts-wrong
+use Rattle.spaces.proofs.wrong_mappings.Reads as spaces-wrong-mappings
+use Rattle.spaces.proofs.wrong_links.Reads as spaces-wrong-links
+use Rattle.spaces.proofs.wrong_modifiers.Reads as spaces-wrong-modifiers
+use Rattle.parents.proofs.wrong.Reads as parents-wrong
+use Rattle.judge.proofs.judge.Reads as judge-judge
+use Rattle.judge.proofs.refusal.Reads as judge-refusal
+use Rattle.judge.proofs.examine.Reads as judge-examine
+use Rattle.regions.proofs.read.Reads as regions-read
+use Rattle.regions.proofs.of_kind.Reads as regions-of-kind
+use Rattle.regions.proofs.place_of as regions-place-of
+use Rattle.regions.proofs.place_in.Reads as regions-place-in
+use Rattle.regions.proofs.holding.Reads as regions-holding
+use Rattle.pointers.proofs.search.Reads as pointers-search
+use Rattle.dump.proofs.find.Reads as dump-find
+use Rattle.dump.proofs.read.Reads as dump-read
+use Rattle.reader.proofs.open as reader-open
+use Rattle.reader.proofs.here as reader-here
+use Rattle.reader.proofs.next as reader-next
+use Rattle.reader.proofs.entry.Reads as reader-entry
+use Rattle.reader.proofs.after.Reads as reader-after
+use Rattle.text.proofs.word.Reads as text-word
+use Rattle.text.proofs.width.Reads as text-width
+use Rattle.text.proofs.decimal.Reads as text-decimal
+use Rattle.text.proofs.hex8.Reads as text-hex8
+use Rattle.text.proofs.hex16.Reads as text-hex16
+use Rattle.text.proofs.kept.Reads as text-kept
+use Rattle.text.proofs.name.Reads as text-name
+use Rattle.lines.proofs.entry.line.Reads as lines-entry-line
+use Rattle.lines.proofs.frame.pointer.Reads as lines-frame-pointer
+use Rattle.lines.proofs.frame.table.Reads as lines-frame-table
+use Rattle.lines.proofs.frame.end.Reads as lines-frame-end
+use Rattle.lines.proofs.frame.default.Reads as lines-frame-default
+use Rattle.lines.proofs.frame.refused.Reads as lines-frame-refused
+use Rattle.widths.proofs.base.Reads as widths-base
+use Rattle.widths.proofs.extended.Reads as widths-extended
+use Rattle.listing.proofs.list.Reads as listing-list
+use Rattle.listing.proofs.print.Reads as listing-print
+use Rattle.writer.proofs.write.Reads as writer-write
+use Rattle.writer.proofs.parts.Reads as writer-parts
+use Rattle.writer.proofs.fields.Reads as writer-fields
+use Rattle.editor.proofs.edit.Reads as editor-edit
+use Rattle.routes.proofs.io.Reads as routes-io
+use Rattle.routes.proofs.local.Reads as routes-local
+use Rattle.addresses.proofs.seen.Reads as addresses-seen
+use Rattle.exports.proofs.ruxtajma_judge.Reads as ruxtajma-judge
+use Rattle.exports.proofs.ruxtajma_parts.Reads as ruxtajma-parts
+use Rattle.exports.proofs.ruxtajma_entry.Reads as ruxtajma-entry
+use Rattle.exports.proofs.ruxtajma_read.Reads as ruxtajma-read
+use Rattle.exports.proofs.ruxtajma_addresses.Reads as ruxtajma-addresses
+use Rattle.exports.proofs.ruxtajma_list.Reads as ruxtajma-list
+use Rattle.exports.proofs.ruxtajma_io_routes.Reads as ruxtajma-io-routes
+use Rattle.exports.proofs.ruxtajma_local_routes.Reads as ruxtajma-local-routes
+use Rattle.exports.proofs.ruxtajma_address.Reads as ruxtajma-address
+use Rattle.exports.proofs.ruxtajma_write.Reads as ruxtajma-write
+use Rattle.exports.proofs.ruxtajma_edit.Reads as ruxtajma-edit
+
+-- ---- sums
+
+pub sums-sum-determined : Answers sums-sum.Post
+sums-sum-determined κ a x y s t p q = p ∙ sym q
+
+pub sums-to-store-determined : Answers sums-to-store.Post
+sums-to-store-determined κ a x y s t p q = p ∙ sym q
+
+-- ---- numbers
+
+pub numbers-byte-determined : Answers numbers-byte.Post
+numbers-byte-determined κ a x y s t p q = p ∙ sym q
+
+pub numbers-wide-determined : Answers numbers-wide.Post
+numbers-wide-determined κ a x y s t p q = p .0 ∙ sym (q .0)
+
+pub numbers-le16-determined : Answers numbers-le16.Post
+numbers-le16-determined κ a x y s t p q = p ∙ sym q
+
+pub numbers-le32-determined : Answers numbers-le32.Post
+numbers-le32-determined κ a x y s t p q = p ∙ sym q
+
+pub numbers-le64-determined : Answers numbers-le64.Post
+numbers-le64-determined κ a x y s t p q = p ∙ sym q
+
+pub numbers-put16-determined : Leaves numbers-put16.Post (λ κ s. now (s .0))
+numbers-put16-determined κ a x y s t p q = p ∙ sym q
+
+pub numbers-put32-determined : Leaves numbers-put32.Post (λ κ s. now (s .0))
+numbers-put32-determined κ a x y s t p q = p ∙ sym q
+
+pub numbers-put64-determined : Leaves numbers-put64.Post (λ κ s. now (s .0))
+numbers-put64-determined κ a x y s t p q = p ∙ sym q
+
+-- ---- slices
+
+pub slices-same-determined : Answers slices-same.Post
+slices-same-determined κ a x y s t p q = p ∙ sym q
+
+pub slices-copy-determined : Leaves slices-copy.Post (λ κ s. now (s .0))
+slices-copy-determined κ a x y s t p q = p ∙ sym q
+
+pub slices-clear-determined : Leaves slices-clear.Post (λ κ s. now (s .0))
+slices-clear-determined κ a x y s t p q = p ∙ sym q
+
+-- ---- tables
+
+pub tables-names-is-bus-name-determined : Answers tables-names-is-bus-name.Post
+tables-names-is-bus-name-determined κ a x y s t p q = p ∙ sym q
+
+pub tables-ranges-ranges-determined : Answers tables-ranges-ranges.Post
+tables-ranges-ranges-determined κ a x y s t p q = p ∙ sym q
+
+-- ---- sets
+
+pub sets-empty-determined : Answers sets-empty.Post
+sets-empty-determined κ a x y s t p q = p ∙ sym q
+
+pub sets-put-determined : Answers sets-put.Post
+sets-put-determined κ a x y s t p q = p ∙ sym q
+
+pub sets-contains-determined : Answers sets-contains.Post
+sets-contains-determined κ a x y s t p q = p ∙ sym q
+
+-- ---- entries
+
+pub entries-size-determined : Answers entries-size.Post
+entries-size-determined κ a x y s t p q = p ∙ sym q
+
+pub entries-count-determined : Answers entries-count.Post
+entries-count-determined κ a x y s t p q = p ∙ sym q
+
+pub entries-offset-determined : Answers entries-offset.Post
+entries-offset-determined κ a x y s t p q = p ∙ sym q
+
+-- ---- header
+
+pub header-refusal-determined : Answers header-refusal.Post
+header-refusal-determined κ a x y s t p q = p ∙ sym q
+
+pub header-wrong-extended-determined : Answers header-wrong-extended.Post
+header-wrong-extended-determined κ a x y s t p q = p ∙ sym q
+
+-- ---- sections
+
+pub sections-base-determined : Answers sections-base.Post
+sections-base-determined κ a x y s t p q = p ∙ sym q
+
+pub sections-extended-determined : Answers sections-extended.Post
+sections-extended-determined κ a x y s t p q = p ∙ sym q
+
+-- ---- apics
+
+pub apics-claim-determined : Answers apics-claim.Post
+apics-claim-determined κ a x y s t p q = p ∙ sym q
+
+pub apics-wrong-boot-determined : Answers apics-wrong-boot.Post
+apics-wrong-boot-determined κ a x y s t p q = p ∙ sym q
+
+pub apics-misplaced-determined : Answers apics-misplaced.Post
+apics-misplaced-determined κ a x y s t p q = p ∙ sym q
+
+-- ---- buses
+
+pub buses-list-determined : Answers buses-list.Post
+buses-list-determined κ a x y s t p q = p ∙ sym q
+
+pub buses-is-listed-determined : Answers buses-is-listed.Post
+buses-is-listed-determined κ a x y s t p q = p ∙ sym q
+
+-- ---- interrupts
+
+pub interrupts-wrong-determined : Answers interrupts-wrong.Post
+interrupts-wrong-determined κ a x y s t p q = p ∙ sym q
+
+-- ---- spaces
+
+pub spaces-wrong-mappings-determined : Answers spaces-wrong-mappings.Post
+spaces-wrong-mappings-determined κ a x y s t p q = p ∙ sym q
+
+pub spaces-wrong-links-determined : Answers spaces-wrong-links.Post
+spaces-wrong-links-determined κ a x y s t p q = p ∙ sym q
+
+pub spaces-wrong-modifiers-determined : Answers spaces-wrong-modifiers.Post
+spaces-wrong-modifiers-determined κ a x y s t p q = p ∙ sym q
+
+-- ---- parents
+
+pub parents-wrong-determined : Answers parents-wrong.Post
+parents-wrong-determined κ a x y s t p q = p ∙ sym q
+
+-- ---- judge
+
+pub judge-judge-determined : Answers judge-judge.Post
+judge-judge-determined κ a x y s t p q = p ∙ sym q
+
+pub judge-refusal-determined : Answers judge-refusal.Post
+judge-refusal-determined κ a x y s t p q = p ∙ sym q
+
+pub judge-examine-determined : Answers judge-examine.Post
+judge-examine-determined κ a x y s t p q = p ∙ sym q
+
+-- ---- regions
+
+pub regions-read-determined : Answers regions-read.Post
+regions-read-determined κ a x y s t p q = p ∙ sym q
+
+pub regions-of-kind-determined : Answers regions-of-kind.Post
+regions-of-kind-determined κ a x y s t p q = p ∙ sym q
+
+pub regions-place-of-determined : Decides regions-place-of.ended (λ M 𝓤. regions-place-of.clauses 𝓤)
+regions-place-of-determined M 𝓤 H A mem run κs a g x y s t = both-are 𝓤 x y _
+
+pub regions-place-in-determined : Answers regions-place-in.Post
+regions-place-in-determined κ a x y s t p q = p ∙ sym q
+
+pub regions-holding-determined : Answers regions-holding.Post
+regions-holding-determined κ a x y s t p q = p ∙ sym q
+
+-- ---- pointers
+
+pub pointers-search-determined : Answers pointers-search.Post
+pointers-search-determined κ a x y s t p q = p ∙ sym q
+
+-- ---- dump
+
+pub dump-find-determined : Answers dump-find.Post
+dump-find-determined κ a x y s t p q = p ∙ sym q
+
+pub dump-read-determined : Answers dump-read.Post
+dump-read-determined κ a x y s t p q = p ∙ sym q
+
+-- ---- reader
+
+pub reader-open-determined : Decides reader-open.ended (λ M 𝓤. reader-open.clauses 𝓤)
+reader-open-determined M 𝓤 H A mem run κs a g x y s t = both-are 𝓤 x y _
+
+pub reader-here-determined : Decides reader-here.ended (λ M 𝓤. reader-here.clauses 𝓤)
+reader-here-determined M 𝓤 H A mem run κs a g x y s t = both-are 𝓤 x y _
+
+pub reader-next-determined : Decides reader-next.ended (λ M 𝓤. reader-next.clauses 𝓤)
+reader-next-determined M 𝓤 H A mem run κs a g x y s t = both-are 𝓤 x y _
+
+pub reader-entry-determined : Answers reader-entry.Post
+reader-entry-determined κ a x y s t p q = p ∙ sym q
+
+pub reader-after-determined : Answers reader-after.Post
+reader-after-determined κ a x y s t p q = p ∙ sym q
+
+-- ---- text
+
+pub text-word-determined : Determines text-word.Post (λ κ s. now (s .0))
+text-word-determined κ a x y s t p q = (p .0 ∙ sym (q .0), p .1 ∙ sym (q .1))
+
+pub text-width-determined : Answers text-width.Post
+text-width-determined κ a x y s t p q = p .0 ∙ sym (q .0)
+
+pub text-decimal-determined : Determines text-decimal.Post (λ κ s. now (s .0))
+text-decimal-determined κ a x y s t p q = (p .0 ∙ sym (q .0), p .1 ∙ sym (q .1))
+
+pub text-hex8-determined : Determines text-hex8.Post (λ κ s. now (s .0))
+text-hex8-determined κ a x y s t p q = (p .0 ∙ sym (q .0), p .1 ∙ sym (q .1))
+
+pub text-hex16-determined : Determines text-hex16.Post (λ κ s. now (s .0))
+text-hex16-determined κ a x y s t p q = (p .0 ∙ sym (q .0), p .1 ∙ sym (q .1))
+
+pub text-kept-determined : Answers text-kept.Post
+text-kept-determined κ a x y s t p q = p ∙ sym q
+
+pub text-name-determined : Determines text-name.Post (λ κ s. now (s .0))
+text-name-determined κ a x y s t p q = (p .0 ∙ sym (q .0), p .1 ∙ sym (q .1))
+
+-- ---- lines
+
+pub lines-entry-line-determined : Determines lines-entry-line.Post (λ κ s. now (s .0))
+lines-entry-line-determined κ a x y s t p q = (p .0 ∙ sym (q .0), p .1 ∙ sym (q .1))
+
+pub lines-frame-pointer-determined : Determines lines-frame-pointer.Post (λ κ s. now (s .0))
+lines-frame-pointer-determined κ a x y s t p q = (p .0 ∙ sym (q .0), p .1 ∙ sym (q .1))
+
+pub lines-frame-table-determined : Determines lines-frame-table.Post (λ κ s. now (s .0))
+lines-frame-table-determined κ a x y s t p q = (p .0 ∙ sym (q .0), p .1 ∙ sym (q .1))
+
+pub lines-frame-end-determined : Determines lines-frame-end.Post (λ κ s. now (s .0))
+lines-frame-end-determined κ a x y s t p q = (p .0 ∙ sym (q .0), p .1 ∙ sym (q .1))
+
+pub lines-frame-default-determined : Determines lines-frame-default.Post (λ κ s. now (s .0))
+lines-frame-default-determined κ a x y s t p q = (p .0 ∙ sym (q .0), p .1 ∙ sym (q .1))
+
+pub lines-frame-refused-determined : Determines lines-frame-refused.Post (λ κ s. now (s .0))
+lines-frame-refused-determined κ a x y s t p q = (p .0 ∙ sym (q .0), p .1 ∙ sym (q .1))
+
+-- ---- widths
+
+pub widths-base-determined : Answers widths-base.Post
+widths-base-determined κ a x y s t p q = p ∙ sym q
+
+pub widths-extended-determined : Answers widths-extended.Post
+widths-extended-determined κ a x y s t p q = p ∙ sym q
+
+-- ---- listing
+
+pub listing-list-determined : Determines listing-list.Post (λ κ s. now (s .1 .0))
+listing-list-determined κ a x y s t p q = (p .0 ∙ sym (q .0), p .1 ∙ sym (q .1))
+
+pub listing-print-determined : Determines listing-print.Post (λ κ s. now (s .1 .0))
+listing-print-determined κ a x y s t p q = (p .0 ∙ sym (q .0), p .1 ∙ sym (q .1))
+
+-- ---- writer
+
+pub writer-write-determined : Determines writer-write.Post (λ κ s. now (s .1 .1 .1 .0))
+writer-write-determined κ a x y s t p q = (p .0 ∙ sym (q .0), p .1 ∙ sym (q .1))
+
+pub writer-parts-determined : Answers writer-parts.Post
+writer-parts-determined κ a x y s t p q = p ∙ sym q
+
+pub writer-fields-determined : Answers writer-fields.Post
+writer-fields-determined κ a x y s t p q = p ∙ sym q
+
+-- ---- editor
+
+pub editor-edit-determined : Determines editor-edit.Post (λ κ s. now (s .0))
+editor-edit-determined κ a x y s t p q = (p .0 ∙ sym (q .0), p .1 ∙ sym (q .1))
+
+-- ---- routes
+
+pub routes-io-determined : Determines routes-io.Post (λ κ s. now (s .1 .1 .1 .1 .0))
+routes-io-determined κ a x y s t p q = (p .0 ∙ sym (q .0), p .1 ∙ sym (q .1))
+
+pub routes-local-determined : Determines routes-local.Post (λ κ s. now (s .1 .1 .1 .1 .0))
+routes-local-determined κ a x y s t p q = (p .0 ∙ sym (q .0), p .1 ∙ sym (q .1))
+
+-- ---- addresses
+
+pub addresses-seen-determined : Answers addresses-seen.Post
+addresses-seen-determined κ a x y s t p q = p ∙ sym q
+
+-- ---- exports
+
+pub ruxtajma-judge-determined : Answers ruxtajma-judge.Post
+ruxtajma-judge-determined κ a x y s t p q = p ∙ sym q
+
+pub ruxtajma-parts-determined : Answers ruxtajma-parts.Post
+ruxtajma-parts-determined κ a x y s t p q = p ∙ sym q
+
+pub ruxtajma-entry-determined : Answers ruxtajma-entry.Post
+ruxtajma-entry-determined κ a x y s t p q = p ∙ sym q
+
+pub ruxtajma-read-determined : Answers ruxtajma-read.Post
+ruxtajma-read-determined κ a x y s t p q = p ∙ sym q
+
+pub ruxtajma-addresses-determined : Answers ruxtajma-addresses.Post
+ruxtajma-addresses-determined κ a x y s t p q = p ∙ sym q
+
+pub ruxtajma-list-determined : Determines ruxtajma-list.Post (λ κ s. now (s .1 .0))
+ruxtajma-list-determined κ a x y s t p q = (p .0 ∙ sym (q .0), p .1 ∙ sym (q .1))
+
+pub ruxtajma-io-routes-determined : Determines ruxtajma-io-routes.Post (λ κ s. now (s .1 .1 .1 .1 .0))
+ruxtajma-io-routes-determined κ a x y s t p q = (p .0 ∙ sym (q .0), p .1 ∙ sym (q .1))
+
+pub ruxtajma-local-routes-determined : Determines ruxtajma-local-routes.Post (λ κ s. now (s .1 .1 .1 .1 .0))
+ruxtajma-local-routes-determined κ a x y s t p q = (p .0 ∙ sym (q .0), p .1 ∙ sym (q .1))
+
+pub ruxtajma-address-determined : Answers ruxtajma-address.Post
+ruxtajma-address-determined κ a x y s t p q = p ∙ sym q
+
+pub ruxtajma-write-determined : Determines ruxtajma-write.Post (λ κ s. now (s .1 .1 .1 .1 .1 .1 .1 .1 .0))
+ruxtajma-write-determined κ a x y s t p q = (p .0 ∙ sym (q .0), p .1 ∙ sym (q .1))
+
+pub ruxtajma-edit-determined : Determines ruxtajma-edit.Post (λ κ s. now (s .0))
+ruxtajma-edit-determined κ a x y s t p q = (p .0 ∙ sym (q .0), p .1 ∙ sym (q .1))

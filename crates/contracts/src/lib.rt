@@ -1,0 +1,33 @@
+// Contracts: theorems over the contracts of public functions as the toolchain reads them. It is the one crate that names
+// every crate with a public function.
+//
+// proofs/ has that every public contract determines its answer and what it leaves (Forms says what that is; Determined has the
+// list, written by .ci/lists), and that calls of the editor made one after another, from Rattle or from C, are a run of the
+// definition, so that demand 3's promises of a run hold of them (Calls).
+//
+// The three functions below are called by none. Their contracts say what a call's types give, whatever its arguments are:
+// where a promise supposes bytes, or header fields of their widths, who makes the call has no more to show. The reading of a
+// contract alone does not say it: what a reference holds is known to the code that is lent it.
+use mps::Fields;
+ghost use Rattle.laws.proofs.Small.{Bytes};
+ghost use Rattle.writer.specs.Laid.{partsGiven};
+ghost use Rattle.promises.proofs.Again.{Proper};
+
+fn lent(t: &[u8]) -> u8
+    ensures { λ _. ⌜ Bytes (now (t .entry)) ⌝ }
+{
+    numbers::byte(t, 0)
+}
+
+fn lent_to_write(t: &mut [u8]) -> u8
+    ensures { λ _. ⌜ Bytes (now (t .entry)) ⌝ }
+    ensures { λ _. ⌜ Bytes (now (t .exit)) ⌝ }
+{
+    numbers::byte(t, 0)
+}
+
+fn handed(fields: Fields, base: &[u8], extended: &[u8]) -> u8
+    ensures { λ _. ⌜ Proper (partsGiven fields (now (base .entry)) (now (extended .entry))) ⌝ }
+{
+    numbers::byte(base, 0)
+}
