@@ -29,7 +29,7 @@ use Rattle.mps.specs.declared.Held.{Held}
 use Rattle.mps.specs.declared.Held.the-variants.{Default, Table, Refused}
 use Rattle.mps.specs.declared.Lent.the-variants.{Count}
 use Rattle.laws.proofs.Tests.{whether, or-parts}
-use Rattle.laws.proofs.Refusals.{refusal-pass}
+use Rattle.laws.proofs.Refusals.{first-none, refusal-pass}
 use Rattle.laws.proofs.Lent.{count-given}
 use Rattle.laws.proofs.Lists.{any-keep}
 use Rattle.laws.proofs.Joined.{joined-append, joined-same, joined-each}

@@ -285,7 +285,7 @@ module _ (d : List ℕ) where
 
   pub find-refused : (n : ℕ) → refusal (pointerRules d) ≡ suc n → held d ≡ pointed d
   unfolding pointed held
-  find-refused n e = let m = pointer-first ∙ rw e in rw (m, e)
+  find-refused n e = let m : dumpRefusal d ≡ suc n = pointer-first ∙ rw e in rw (m, e)
 
   pub find-accepted : dumpRefusal d ≡ 0 → pointed d ≡ held d
   unfolding pointed held
