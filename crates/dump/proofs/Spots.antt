@@ -18,8 +18,8 @@ use Rattle.laws.proofs.Joined.{joined-append}
 use Rattle.laws.proofs.Parts.{length-part, part-part}
 use Rattle.regions.specs.Regions.{blank, eight, firstOfKind}
 use Rattle.regions.proofs.Firsts.{first-all}
-use Rattle.regions.proofs.Rules.{sound-parts}
-use Rattle.regions.proofs.Laws.{sound-count, sound-kind, kind-listed, kind-eight, kind-inside}
+use Rattle.contents.proofs.Rules.{sound-parts}
+use Rattle.contents.proofs.Laws.{sound-count, sound-kind, kind-listed, kind-eight, kind-inside}
 use Rattle.pointers.specs.declared.Searched.{Searched}
 use Rattle.pointers.specs.declared.Searched.the-variants.{At as Searched·At, Nothing}
 use Rattle.pointers.specs.Search.{searchOf}

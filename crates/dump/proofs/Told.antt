@@ -18,9 +18,10 @@ use Rattle.mps.specs.Judge.{pointerRules, told, pointed}
 use Rattle.mps.specs.declared.Region.{Region}
 use Rattle.mps.specs.declared.Held.the-variants.{Default, Table, Refused}
 use Rattle.laws.proofs.Refusals.{refusal-stop, refusal-go, refusal-end}
-use Rattle.regions.specs.declared.Contents.{Contents}
-use Rattle.regions.specs.Regions.{eight, contents}
-use Rattle.regions.proofs.Laws.{contents-wrong, contents-all, sound-count, holding-eight, holding-inside}
+use Rattle.contents.specs.declared.Contents.{Contents}
+use Rattle.regions.specs.Regions.{eight}
+use Rattle.contents.specs.Contents.{contents}
+use Rattle.contents.proofs.Laws.{contents-wrong, contents-all, sound-count, holding-eight, holding-inside}
 use Rattle.dump.specs.Spotted.{SpotsAt}
 
 -- ---- What was read of the regions

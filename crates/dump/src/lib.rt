@@ -29,7 +29,7 @@ enum Spotted {
 pub fn find(d: &[u8]) -> Held
     ensures { λ r. ⌜ r ≡ pointed (now (d .entry)) ⌝ }
 {
-    let listed = regions::read(d);
+    let listed = contents::read(d);
     if listed.wrong {
         return Held::Refused(1);
     }

@@ -51,7 +51,7 @@ use Rattle.sections.proofs.extended.Reads as extended-sections
 use Rattle.judge.proofs.judge.Reads as judge
 use Rattle.judge.proofs.refusal.Reads as judge-refusal
 use Rattle.judge.proofs.examine.Reads as examine
-use Rattle.regions.proofs.read.Reads as read-regions
+use Rattle.contents.proofs.read.Reads as read-regions
 use Rattle.regions.proofs.of_kind.Reads as of-kind
 use Rattle.regions.proofs.place_of as place-of
 use Rattle.regions.proofs.place_in.Reads as place-in

@@ -1,10 +1,10 @@
 -- The loop's invariant: with the rows left, what is read is what all rows are.
 use Prim.Native.Nat.{_-_}
 use native.Mathlib.Omega.{arith}
-use Rattle.regions.proofs.Bodies.{Read, read-start, read-next, read-done}
+use Rattle.contents.proofs.Bodies.{Read, read-start, read-next, read-done}
 use borrow.Author.Needs.{needs}
-use Rattle.regions.proofs.rows.Statement.{statement}
-use Rattle.regions.proofs.rows.Tie as tie
+use Rattle.contents.proofs.rows.Statement.{statement}
+use Rattle.contents.proofs.rows.Tie as tie
 
 abbrev Inv-loop : tie.InvT-loop
 Inv-loop d count all₀ at₀ end₀ i₀ all at end i = Read d count all at end i

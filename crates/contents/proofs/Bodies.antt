@@ -16,9 +16,9 @@ use Rattle.mps.specs.Layout.{regionsMost, regionCount, rowLength, rowSize}
 use Rattle.mps.specs.Dump.{regionsFrom, regions, contentsEnd, sizeOf}
 use Rattle.mps.specs.declared.Region.{Region}
 use Rattle.numbers.proofs.Laws.{le-drop}
 use Rattle.regions.specs.Regions.{blank, eight}
-use Rattle.regions.specs.Steps.{lastEnd}
+use Rattle.contents.specs.Steps.{lastEnd}
 use Rattle.regions.proofs.Eight.{eight-sets}
 
 -- ---- As many as byte 0 says
 

@@ -9,10 +9,10 @@ use Rattle.mps.specs.Words.{any}
 use Rattle.mps.specs.Dump.{ofKind, onceOnly, share, overlap, kindTwice}
 use Rattle.mps.specs.declared.Region.{Region}
 use Rattle.laws.proofs.Tests.{whether, or-four}
 use Rattle.regions.specs.Regions.{blank}
-use Rattle.regions.specs.Steps.{clashing, clashAny}
-use Rattle.regions.proofs.Once.{twice-none, twice-first}
+use Rattle.contents.specs.Steps.{clashing, clashAny}
+use Rattle.contents.proofs.Once.{twice-none, twice-first}
 use Rattle.regions.proofs.Places.{place-next, place-none}
 
 -- Either of two tests, the second only where o is so.
 any-either : {A : Type 0} (p q : A → Bool) (o : Bool) (xs : List A) → any (λ (x : A). p x || o && q x) xs ≡ (any p xs || o && any q xs)

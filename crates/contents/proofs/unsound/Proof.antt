@@ -4,12 +4,12 @@ use mathlib.Core.Path.{_≡_, refl}
 use native.Mathlib.Omega.{arith}
 use lib.ListN.{take, drop}
 use Rattle.mps.specs.Words.{any}
 use Rattle.regions.specs.Regions.{blank}
-use Rattle.regions.specs.Steps.{unsoundRegion}
+use Rattle.contents.specs.Steps.{unsoundRegion}
 use Rattle.regions.proofs.Places.{any-end, any-hit, any-miss}
 use borrow.Author.Needs.{needs}
-use Rattle.regions.proofs.unsound.Statement.{statement}
-use Rattle.regions.proofs.unsound.Tie as tie
+use Rattle.contents.proofs.unsound.Statement.{statement}
+use Rattle.contents.proofs.unsound.Tie as tie
 
 abbrev Inv-loop : tie.InvT-loop
 Inv-loop count rs i₀ i = (any unsoundRegion (drop i (take count rs)) ≡ any unsoundRegion (take count rs)) × (i ≤ count)

@@ -13,13 +13,14 @@ use Rattle.mps.specs.Dump.{ofKind, endOf, regions, soundDump, holding, holds, n
 use Rattle.mps.specs.declared.Region.{Region}
 use Rattle.laws.proofs.Tests.{whether, and-parts}
 use Rattle.laws.proofs.Lists.{keep-in, keep-out}
-use Rattle.regions.specs.Regions.{blank, eight, contents, firstOfKind}
+use Rattle.regions.specs.Regions.{blank, eight, firstOfKind}
+use Rattle.contents.specs.Contents.{contents}
 use Rattle.regions.proofs.Coded.{holding-blank}
 use Rattle.regions.proofs.Firsts.{first-all}
 use Rattle.regions.proofs.Eight.{first-eight}
-use Rattle.regions.proofs.Once.{kind-alone}
-use Rattle.regions.proofs.Bodies.{regions-length, before, regions-before, behind, regions-behind}
-use Rattle.regions.proofs.Rules.{sound-parts}
+use Rattle.contents.proofs.Once.{kind-alone}
+use Rattle.contents.proofs.Bodies.{regions-length, before, regions-before, behind, regions-behind}
+use Rattle.contents.proofs.Rules.{sound-parts}
 
 -- ---- What is read of a dump
 

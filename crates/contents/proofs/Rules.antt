@@ -10,7 +10,7 @@ use Rattle.mps.specs.Words.{every}
 use Rattle.mps.specs.Layout.{dumpMost, regionsMost, regionCount}
 use Rattle.mps.specs.Dump.{regions, soundRegion, kindTwice, overlap, endsWithLast, soundDump}
 use Rattle.laws.proofs.Tests.{and-parts}
-use Rattle.regions.specs.Steps.{lastEnd}
+use Rattle.contents.specs.Steps.{lastEnd}
 
 pub record Sound (d : List ℕ) : Type 0 where
   pub some : 1 ≤ length d

@@ -1,10 +1,10 @@
 -- By a law for each of its answers.
 use mathlib.Core.Path.{refl, sym, _∙_}
 use native.Mathlib.Omega.{arith}
-use Rattle.regions.proofs.Reading.{contents-none, read-length, read-unsound, read-clash, read-sound}
+use Rattle.contents.proofs.Reading.{contents-none, read-length, read-unsound, read-clash, read-sound}
 use borrow.Author.Needs.{needs}
-use Rattle.regions.proofs.read.Statement.{statement}
-use Rattle.regions.proofs.read.Tie as tie
+use Rattle.contents.proofs.read.Statement.{statement}
+use Rattle.contents.proofs.read.Tie as tie
 
 returns : tie.Need-returns
 returns c = contents-none _ (λ s. omega (arith, s .some))

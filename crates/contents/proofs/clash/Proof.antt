@@ -1,8 +1,8 @@
 -- The code's tests are those of `clashing`, an end for a base and a size: `clash-is`.
-use Rattle.regions.proofs.Coded.{clash-is}
+use Rattle.contents.proofs.Coded.{clash-is}
 use borrow.Author.Needs.{needs}
-use Rattle.regions.proofs.clash.Statement.{statement}
-use Rattle.regions.proofs.clash.Tie as tie
+use Rattle.contents.proofs.clash.Statement.{statement}
+use Rattle.contents.proofs.clash.Tie as tie
 
 returns : tie.Need-returns
 returns c =

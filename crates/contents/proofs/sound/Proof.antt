@@ -1,8 +1,8 @@
 -- The code's tests are those of `soundRegion`, an end for a base and a size: `sound-is`.
-use Rattle.regions.proofs.Coded.{sound-is}
+use Rattle.contents.proofs.Coded.{sound-is}
 use borrow.Author.Needs.{needs}
-use Rattle.regions.proofs.sound.Statement.{statement}
-use Rattle.regions.proofs.sound.Tie as tie
+use Rattle.contents.proofs.sound.Statement.{statement}
+use Rattle.contents.proofs.sound.Tie as tie
 
 returns : tie.Need-returns
 returns c = sound-is _ _ (c .before .before .before .before .before .before .before .end-of .ensures)

@@ -3,11 +3,11 @@ use Prim.Native.Nat.{_-_, _≤_}
 use mathlib.Core.Path.{_≡_, refl, sym, _∙_}
 use native.Mathlib.Omega.{arith}
 use lib.ListN.{take, drop}
-use Rattle.regions.specs.Steps.{clashAny}
-use Rattle.regions.proofs.Pairs.{clash-end, clash-hit, clash-miss}
+use Rattle.contents.specs.Steps.{clashAny}
+use Rattle.contents.proofs.Pairs.{clash-end, clash-hit, clash-miss}
 use borrow.Author.Needs.{needs}
-use Rattle.regions.proofs.clashes.Statement.{statement}
-use Rattle.regions.proofs.clashes.Tie as tie
+use Rattle.contents.proofs.clashes.Statement.{statement}
+use Rattle.contents.proofs.clashes.Tie as tie
 
 abbrev Inv-loop : tie.InvT-loop
 Inv-loop rs count i₀ i = (clashAny (drop i (take count rs)) ≡ clashAny (take count rs)) × (i ≤ count)

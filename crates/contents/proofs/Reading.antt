@@ -11,13 +11,14 @@ use Rattle.mps.specs.Layout.{dumpMost, regionsMost, regionCount}
 use Rattle.mps.specs.Dump.{regions, soundRegion, kindTwice, overlap, soundDump}
 use Rattle.mps.specs.declared.Region.{Region}
 use Rattle.laws.proofs.Tests.{whether, or-parts}
-use Rattle.regions.specs.Regions.{blank, eight, contents}
-use Rattle.regions.specs.Steps.{lastEnd, unsoundRegion, clashAny}
-use Rattle.regions.specs.declared.Contents.{Contents}
+use Rattle.regions.specs.Regions.{blank, eight}
+use Rattle.contents.specs.Contents.{contents}
+use Rattle.contents.specs.Steps.{lastEnd, unsoundRegion, clashAny}
+use Rattle.contents.specs.declared.Contents.{Contents}
 use Rattle.regions.proofs.Eight.{length-eight, take-count}
-use Rattle.regions.proofs.Pairs.{clashes-are}
-use Rattle.regions.proofs.Bodies.{regions-length}
-use Rattle.regions.proofs.Rules.{Sound, sound-parts, sound-whole}
+use Rattle.contents.proofs.Pairs.{clashes-are}
+use Rattle.contents.proofs.Bodies.{regions-length}
+use Rattle.contents.proofs.Rules.{Sound, sound-parts, sound-whole}
 
 -- A dump that breaks a rule.
 pub contents-none : (d : List ℕ) → (Sound d → ⊥) → _≡_ {A = Contents} (record { wrong = true; all = replicate 8 blank }) (contents d)

@@ -4,12 +4,12 @@ use mathlib.Core.Path.{_≡_, refl, sym, _∙_}
 use native.Mathlib.Omega.{arith}
 use lib.ListN.{getD, take, drop}
 use Rattle.mps.specs.Words.{any}
 use Rattle.regions.specs.Regions.{blank}
-use Rattle.regions.specs.Steps.{clashing}
+use Rattle.contents.specs.Steps.{clashing}
 use Rattle.regions.proofs.Places.{any-end, any-hit, any-miss}
 use borrow.Author.Needs.{needs}
-use Rattle.regions.proofs.clashes_at.Statement.{statement}
-use Rattle.regions.proofs.clashes_at.Tie as tie
+use Rattle.contents.proofs.clashes_at.Statement.{statement}
+use Rattle.contents.proofs.clashes_at.Tie as tie
 
 abbrev Inv-loop : tie.InvT-loop
 Inv-loop count i rs r j₀ j =
