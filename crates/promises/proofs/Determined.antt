@@ -57,7 +57,7 @@ use Rattle.regions.proofs.place_of as place-of
 use Rattle.regions.proofs.place_in.Reads as place-in
 use Rattle.regions.proofs.holding.Reads as holding
 use Rattle.pointers.proofs.search.Reads as search
-use Rattle.dump.proofs.find.Reads as find
+use Rattle.finding.proofs.find.Reads as find
 use Rattle.dump.proofs.read.Reads as read-dump
 use Rattle.text.proofs.word.Reads as word
 use Rattle.text.proofs.decimal.Reads as decimal

@@ -1,9 +1,9 @@
 -- The place found in the body is the first good candidate of the region.
 use native.Mathlib.Omega.{arith}
-use Rattle.dump.proofs.Spots.{found-inside, spots-at, spots-nothing}
+use Rattle.finding.proofs.Spots.{found-inside, spots-at, spots-nothing}
 use borrow.Author.Needs.{needs}
-use Rattle.dump.proofs.spot_in.Statement.{statement}
-use Rattle.dump.proofs.spot_in.Tie as tie
+use Rattle.finding.proofs.spot_in.Statement.{statement}
+use Rattle.finding.proofs.spot_in.Tie as tie
 
 cast-t13 : tie.Need-cast-t13
 cast-t13 c =

@@ -1,8 +1,8 @@
 -- Where the first region has no good candidate, those of the ROM are all.
-use Rattle.dump.proofs.Spots.{first-region-fits, spots-first, rom-region-fits, spots-rom}
+use Rattle.finding.proofs.Spots.{first-region-fits, spots-first, rom-region-fits, spots-rom}
 use borrow.Author.Needs.{needs}
-use Rattle.dump.proofs.spot.Statement.{statement}
-use Rattle.dump.proofs.spot.Tie as tie
+use Rattle.finding.proofs.spot.Statement.{statement}
+use Rattle.finding.proofs.spot.Tie as tie
 
 spot-in-requires : tie.Need-spot-in-requires
 spot-in-requires c κs =

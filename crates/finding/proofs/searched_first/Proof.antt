@@ -1,8 +1,8 @@
 -- It is the definition.
-use Rattle.dump.proofs.Spots.{first-ebda, first-base}
+use Rattle.finding.proofs.Spots.{first-ebda, first-base}
 use borrow.Author.Needs.{needs}
-use Rattle.dump.proofs.searched_first.Statement.{statement}
-use Rattle.dump.proofs.searched_first.Tie as tie
+use Rattle.finding.proofs.searched_first.Statement.{statement}
+use Rattle.finding.proofs.searched_first.Tie as tie
 
 returns : tie.Need-returns
 returns c = first-ebda _ (c .before .before .of-kind .ensures) (c .if1 .taken)

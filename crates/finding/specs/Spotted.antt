@@ -10,8 +10,8 @@ use Rattle.mps.specs.Dump.{ofKind}
 use Rattle.mps.specs.Pointer.{Candidate, noCandidate}
 use Rattle.mps.specs.declared.Region.{Region}
 use Rattle.regions.specs.Regions.{firstOfKind}
-use Rattle.dump.specs.declared.Spotted.{Spotted}
-use Rattle.dump.specs.declared.Spotted.the-variants.{At, Nowhere}
+use Rattle.finding.specs.declared.Spotted.{Spotted}
+use Rattle.finding.specs.declared.Spotted.the-variants.{At, Nowhere}
 
 -- "Search kind 1, then kind 2 only if no kind 1 region is listed": the one of them that is searched. It is blank where
 -- neither is listed.

@@ -22,7 +22,7 @@ use Rattle.contents.specs.declared.Contents.{Contents}
 use Rattle.regions.specs.Regions.{eight}
 use Rattle.contents.specs.Contents.{contents}
 use Rattle.contents.proofs.Laws.{contents-wrong, contents-all, sound-count, holding-eight, holding-inside}
-use Rattle.dump.specs.Spotted.{SpotsAt}
+use Rattle.finding.specs.Spotted.{SpotsAt}
 
 -- ---- What was read of the regions
 

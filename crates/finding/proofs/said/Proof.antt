@@ -1,9 +1,9 @@
 -- A law of Told.antt for each way out.
 use native.Mathlib.Omega.{arith}
-use Rattle.dump.proofs.Told.{says-3, over-7, default-with-table, tells-default, no-table, holding-fits, tells-table}
+use Rattle.finding.proofs.Told.{says-3, over-7, default-with-table, tells-default, no-table, holding-fits, tells-table}
 use borrow.Author.Needs.{needs}
-use Rattle.dump.proofs.said.Statement.{statement}
-use Rattle.dump.proofs.said.Tie as tie
+use Rattle.finding.proofs.said.Statement.{statement}
+use Rattle.finding.proofs.said.Tie as tie
 
 returns : tie.Need-returns
 returns c =

@@ -24,9 +24,9 @@ use Rattle.pointers.specs.declared.Searched.{Searched}
 use Rattle.pointers.specs.declared.Searched.the-variants.{At as Searched·At, Nothing}
 use Rattle.pointers.specs.Search.{searchOf}
 use Rattle.pointers.proofs.Laws.{none-found, found-first}
-use Rattle.dump.specs.Spotted.{searchedFirst, SpotsAt, Spots}
-use Rattle.dump.specs.declared.Spotted.{Spotted}
-use Rattle.dump.specs.declared.Spotted.the-variants.{At, Nowhere}
+use Rattle.finding.specs.Spotted.{searchedFirst, SpotsAt, Spots}
+use Rattle.finding.specs.declared.Spotted.{Spotted}
+use Rattle.finding.specs.declared.Spotted.the-variants.{At, Nowhere}
 
 -- ---- The regions that are searched
 

@@ -1,9 +1,9 @@
 -- 1 and 2 here, 3 and 4 by what `said` ensures.
-use Rattle.dump.proofs.Spots.{spotted-at, spotted-none}
-use Rattle.dump.proofs.Told.{read-wrong, read-sound, read-all, says-1, says-2}
+use Rattle.finding.proofs.Spots.{spotted-at, spotted-none}
+use Rattle.finding.proofs.Told.{read-wrong, read-sound, read-all, says-1, says-2}
 use borrow.Author.Needs.{needs}
-use Rattle.dump.proofs.find.Statement.{statement}
-use Rattle.dump.proofs.find.Tie as tie
+use Rattle.finding.proofs.find.Statement.{statement}
+use Rattle.finding.proofs.find.Tie as tie
 
 returns : tie.Need-returns
 returns c = says-1 _ (read-wrong _ (c .before .read .ensures) (c .if1 .taken))
