@@ -1,5 +1,4 @@
 pub mod Links
-pub mod Ranks
-pub mod Marks
+pub mod Parents
 pub mod Climbs
 pub mod Laws

@@ -1,9 +1,9 @@
 -- `lists` meets its contract, by the laws of Ranks.antt.
 use mathlib.Core.Path.{_∙_}
 use borrow.Author.Needs.{needs}
-use Rattle.addresses.proofs.Ranks.{lists-kind, lists-past, lists-below}
-use Rattle.addresses.proofs.lists.Statement.{statement}
-use Rattle.addresses.proofs.lists.Tie as tie
+use Rattle.marks.proofs.Ranks.{lists-kind, lists-past, lists-below}
+use Rattle.marks.proofs.lists.Statement.{statement}
+use Rattle.marks.proofs.lists.Tie as tie
 
 returns : tie.Need-returns
 returns c = lists-kind _ _ (c .if1 .taken)

@@ -1,9 +1,9 @@
 -- `mapping_rank` meets its contract, by the law of Ranks.antt for each way through the tests.
 use native.Mathlib.Omega.{arith}
 use borrow.Author.Needs.{needs}
-use Rattle.addresses.proofs.Ranks.{mapping-kind, mapping-below, mapping-in, mapping-past}
-use Rattle.addresses.proofs.mapping_rank.Statement.{statement}
-use Rattle.addresses.proofs.mapping_rank.Tie as tie
+use Rattle.marks.proofs.Ranks.{mapping-kind, mapping-below, mapping-in, mapping-past}
+use Rattle.marks.proofs.mapping_rank.Statement.{statement}
+use Rattle.marks.proofs.mapping_rank.Tie as tie
 
 returns : tie.Need-returns
 returns c = mapping-kind _ (c .before .before .before .before .before .pre .1) _ _ (c .if1 .taken)

@@ -1,17 +1,15 @@
--- What a bus says of an address, as the code gathers it: one number for each bus, and its parent. The climb then goes
--- from bus to bus and not over the entries again. That it answers as mps's `climb` does is proved: proofs/Laws.antt.
-use Prim.Native.Nat.{ℕ, zero, suc, _+_, max}
+-- What each bus says of an address, as the code gathers it: one number for each bus. That it is what mps's `says` says is
+-- proved: proofs/Marks.antt.
+use Prim.Native.Nat.{ℕ, zero, suc, max}
 use mathlib.Core.Bool.{cond, _&&_}
 use mathlib.Core.List.{List, [], _∷_}
 use lib.ListN.{set, replicate}
 use lib.Dec.{eqb, ltb}
 use Rattle.mps.specs.Words.{byte}
 use Rattle.mps.specs.Ranges.{rangesAt}
-use Rattle.mps.specs.Layout.{Entry, ofType, hierarchyType, modifiedBelow, extendedBus, parentBus, subtractiveBit}
+use Rattle.mps.specs.Layout.{Entry, ofType, hierarchyType, modifiedBelow, extendedBus, subtractiveBit}
 use Rattle.mps.specs.Rules.{onBus}
-use Rattle.mps.specs.Addresses.{takesAway, coversOrAdds, hasEntry, Say, answer}
-use Rattle.mps.specs.declared.Seen.{Seen}
-use Rattle.mps.specs.declared.Seen.the-variants.{Undeclared}
+use Rattle.mps.specs.Addresses.{takesAway, coversOrAdds, hasEntry, Say}
 
 -- What one entry says of its own bus, as a number: "first that applies" is the highest.
 unfoldable pub rank : ℕ → ℕ → Entry → ℕ
@@ -40,20 +38,13 @@ marked kind address marks [] = marks
 marked kind address marks (e ∷ es) =
     marked kind address (set marks (extendedBus e) (max (byte marks (extendedBus e)) (rank kind address e))) es
 
--- A list that has a parent for each bus, with the links put in.
-unfoldable pub parented : List ℕ → List Entry → List ℕ
-parented parents [] = parents
-parented parents (e ∷ ls) = parented (set parents (extendedBus e) (parentBus e)) ls
-
 -- Nothing for any of the 256 buses.
 abbrev pub nothing : List ℕ
 nothing = replicate 256 0
 
--- "the parent's answer, if the bus has the subtractive bit": mps's `climb`, over the two lists.
-unfoldable pub climbIn : ℕ → List ℕ → List ℕ → ℕ → ℕ → Seen
-climbIn zero marks parents bus climbed = answer (meaning (byte marks bus)) climbed (Undeclared climbed)
-climbIn (suc left) marks parents bus climbed =
-    answer (meaning (byte marks bus)) climbed (climbIn left marks parents (byte parents bus) (climbed + 1))
+-- What the entries of the three types say, mappings, links and modifiers.
+abbrev pub allMarked : ℕ → ℕ → List Entry → List Entry → List Entry → List ℕ
+allMarked kind address maps links mods = marked kind address (marked kind address (marked kind address nothing maps) links) mods
 
 -- The lists of MPS Table 4-17 that an address of a kind lies in, bit 0 for ISA and bit 1 for VGA: "Modifiers touch I/O
 -- addresses below 65,536 only".

@@ -14,7 +14,7 @@ use Rattle.mps.specs.Rules.{onBus, links}
 use Rattle.mps.specs.Addresses.{covers, touches, takesAway, adds, coversOrAdds, hasEntry, subtractive, Say, says}
 use Rattle.laws.proofs.Tests.{whether, or-parts}
 use Rattle.laws.proofs.Lists.{any-keep, keep-in, keep-out}
-use Rattle.addresses.specs.Marks.{rank, meaning, highest, marked, nothing}
+use Rattle.marks.specs.Marks.{rank, meaning, highest, marked, nothing}
 
 -- ---- Marks
 

@@ -1,7 +1,7 @@
 -- `touched` meets its contract, by the laws of Ranks.antt.
-use Rattle.addresses.proofs.Ranks.{touched-isa, touched-vga, touched-other}
-use Rattle.addresses.proofs.touched.Statement.{statement}
-use Rattle.addresses.proofs.touched.Tie as tie
+use Rattle.marks.proofs.Ranks.{touched-isa, touched-vga, touched-other}
+use Rattle.marks.proofs.touched.Statement.{statement}
+use Rattle.marks.proofs.touched.Tie as tie
 
 returns : tie.Need-returns
 returns c kind address e = touched-isa _ _ kind address e (c .if1 .taken)

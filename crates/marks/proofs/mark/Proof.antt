@@ -6,10 +6,10 @@ use native.Mathlib.Omega.{arith}
 use lib.ListN.{length, drop, length-set}
 use borrow.Author.Needs.{needs}
 use Rattle.mps.specs.Sections.{rows}
-use Rattle.addresses.specs.Marks.{marked}
-use Rattle.addresses.proofs.Ranks.{marked-done, marked-next}
-use Rattle.addresses.proofs.mark.Statement.{statement}
-use Rattle.addresses.proofs.mark.Tie as tie
+use Rattle.marks.specs.Marks.{marked}
+use Rattle.marks.proofs.Ranks.{marked-done, marked-next}
+use Rattle.marks.proofs.mark.Statement.{statement}
+use Rattle.marks.proofs.mark.Tie as tie
 
 abbrev Inv-loop : tie.InvT-loop
 Inv-loop marks₀ s size kind address lists at₀ marks at =

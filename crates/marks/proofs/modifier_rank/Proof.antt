@@ -1,8 +1,8 @@
 -- `modifier_rank` meets its contract, by the law of Ranks.antt for each way through the tests.
 use borrow.Author.Needs.{needs}
-use Rattle.addresses.proofs.Ranks.{modifier-takes, modifier-adds, modifier-none}
-use Rattle.addresses.proofs.modifier_rank.Statement.{statement}
-use Rattle.addresses.proofs.modifier_rank.Tie as tie
+use Rattle.marks.proofs.Ranks.{modifier-takes, modifier-adds, modifier-none}
+use Rattle.marks.proofs.modifier_rank.Statement.{statement}
+use Rattle.marks.proofs.modifier_rank.Tie as tie
 
 returns : tie.Need-returns
 returns c kind address e =

@@ -15,7 +15,7 @@ use Rattle.mps.specs.Layout.{Entry, type, mappingType, hierarchyType, modifierT
 use Rattle.mps.specs.Sections.{rows}
 use Rattle.mps.specs.Addresses.{covers, touches, takesAway, adds, coversOrAdds, hasEntry}
 use Rattle.laws.proofs.Rows.{rows-done, rows-next, row-byte}
-use Rattle.addresses.specs.Marks.{rank, marked, parented, listsAt}
+use Rattle.marks.specs.Marks.{rank, marked, listsAt}
 
 -- ---- The lists that an address lies in
 
@@ -150,15 +150,11 @@ module _ (n : ℕ) (s : List ℕ) (at : ℕ) (h : at ≤ length s) where
     unfolding marked
     marked-done kind address marks = rw (rows-done n s at h f)
 
-    pub parented-done : (parents : List ℕ) → parented parents (rows n (drop at s)) ≡ parents
-    unfolding parented
-    parented-done parents = rw (rows-done n s at h f)
-
   module _ (z : 8 ≤ n) (f : n ≤ length s - at) (bus : ℕ) (b : bus ≡ getD s (at + 2) 0) where
-    row-there : rows n (drop at s) ≡ take n (drop at s) ∷ rows n (drop (at + n) s)
+    pub row-there : rows n (drop at s) ≡ take n (drop at s) ∷ rows n (drop (at + n) s)
     row-there = rows-next n s at (omega arith) h f
 
-    row-bus : extendedBus (take n (drop at s)) ≡ bus
+    pub row-bus : extendedBus (take n (drop at s)) ≡ bus
     row-bus = row-byte n s at 2 (omega arith) ∙ sym b
 
     pub marked-next :
@@ -170,10 +166,3 @@ module _ (n : ℕ) (s : List ℕ) (at : ℕ) (h : at ≤ length s) where
     marked-next kind address marks said mark e g =
         let width : at + n - at ≡ n = omega arith in
         rw (row-there, marked, row-bus, g, e, width)
-
-    pub parented-next :
-        (parents : List ℕ)
-        → parented parents (rows n (drop at s))
-        ≡ parented (set parents bus (getD s (at + 4) 0)) (rows n (drop (at + n) s))
-    unfolding parented
-    parented-next parents = rw (row-there, parented, row-bus, row-byte n s at 4 (omega arith))

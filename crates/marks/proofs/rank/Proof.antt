@@ -1,8 +1,8 @@
 -- `rank` meets its contract: what the function of the entry's type answers.
 use borrow.Author.Needs.{needs}
-use Rattle.addresses.proofs.Ranks.{rank-other}
-use Rattle.addresses.proofs.rank.Statement.{statement}
-use Rattle.addresses.proofs.rank.Tie as tie
+use Rattle.marks.proofs.Ranks.{rank-other}
+use Rattle.marks.proofs.rank.Statement.{statement}
+use Rattle.marks.proofs.rank.Tie as tie
 
 returns : tie.Need-returns
 returns c = c .mapping-rank .ensures

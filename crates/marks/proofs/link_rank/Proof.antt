@@ -1,8 +1,8 @@
 -- `link_rank` meets its contract, by the laws of Ranks.antt.
 use borrow.Author.Needs.{needs}
-use Rattle.addresses.proofs.Ranks.{link-on, link-off}
-use Rattle.addresses.proofs.link_rank.Statement.{statement}
-use Rattle.addresses.proofs.link_rank.Tie as tie
+use Rattle.marks.proofs.Ranks.{link-on, link-off}
+use Rattle.marks.proofs.link_rank.Statement.{statement}
+use Rattle.marks.proofs.link_rank.Tie as tie
 
 returns : tie.Need-returns
 returns c kind address = link-on _ (c .before .before .pre .1) kind address (c .if1 .taken)
