@@ -60,9 +60,9 @@ use Rattle.pointers.proofs.search.Reads as search
 use Rattle.finding.proofs.find.Reads as find
 use Rattle.dump.proofs.read.Reads as read-dump
 use Rattle.text.proofs.word.Reads as word
-use Rattle.text.proofs.decimal.Reads as decimal
-use Rattle.text.proofs.hex8.Reads as hex8
-use Rattle.text.proofs.hex16.Reads as hex16
+use Rattle.digits.proofs.decimal.Reads as decimal
+use Rattle.digits.proofs.hex8.Reads as hex8
+use Rattle.digits.proofs.hex16.Reads as hex16
 use Rattle.text.proofs.name.Reads as name
 use Rattle.text.proofs.width.Reads as width
 use Rattle.text.proofs.kept.Reads as kept

@@ -1,10 +1,11 @@
 -- A number that needs no loop, or any, where it has room; and else its width.
 use borrow.Author.Needs.{needs}
 use Rattle.mps.specs.Listing.{decimal}
 use Rattle.text.specs.Text.{ended}
-use Rattle.text.proofs.Laws.{has-fits, stored-in, stored-out, decimal-is, number-length}
-use Rattle.text.proofs.decimal.Statement.{statement}
-use Rattle.text.proofs.decimal.Tie as tie
+use Rattle.text.proofs.Laws.{has-fits, stored-in, stored-out}
+use Rattle.digits.proofs.Laws.{decimal-is, number-length}
+use Rattle.digits.proofs.decimal.Statement.{statement}
+use Rattle.digits.proofs.decimal.Tie as tie
 
 short-decimal-requires : tie.Need-short-decimal-requires
 short-decimal-requires c κs =

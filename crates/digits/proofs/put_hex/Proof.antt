@@ -1,14 +1,14 @@
--- `text::put_hex` meets its contract, as `put_decimal` does.
+-- `digits::put_hex` meets its contract, as `put_decimal` does.
 use Prim.Native.Nat.{_≤_}
 use mathlib.Core.Path.{_≡_, refl, sym, _∙_}
 use native.Mathlib.Omega.{arith}
 use lib.ListN.{length, length-set}
 use lib.Seq.{sets}
 use Rattle.mps.specs.Listing.{digits, hexDigit}
-use Rattle.text.proofs.Laws.{digits-next, digits-done}
+use Rattle.digits.proofs.Laws.{digits-next, digits-done}
 use borrow.Author.Needs.{needs}
-use Rattle.text.proofs.put_hex.Statement.{statement}
-use Rattle.text.proofs.put_hex.Tie as tie
+use Rattle.digits.proofs.put_hex.Statement.{statement}
+use Rattle.digits.proofs.put_hex.Tie as tie
 
 abbrev Inv-loop : tie.InvT-loop
 Inv-loop out₀ at x k m₀ v₀ out m v =

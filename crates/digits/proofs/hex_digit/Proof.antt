@@ -1,9 +1,9 @@
--- `text::hex_digit` meets its contract: the two cases of `hexDigit` at once.
+-- `digits::hex_digit` meets its contract: the two cases of `hexDigit` at once.
 use native.Mathlib.Omega.{arith}
-use Rattle.text.proofs.Laws.{digit-is}
+use Rattle.digits.proofs.Laws.{digit-is}
 use borrow.Author.Needs.{needs}
-use Rattle.text.proofs.hex_digit.Statement.{statement}
-use Rattle.text.proofs.hex_digit.Tie as tie
+use Rattle.digits.proofs.hex_digit.Statement.{statement}
+use Rattle.digits.proofs.hex_digit.Tie as tie
 
 returns : tie.Need-returns
 returns c = digit-is _ (omega arith)

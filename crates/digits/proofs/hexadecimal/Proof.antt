@@ -4,10 +4,11 @@ use native.Mathlib.Omega.{arith}
 use lib.ListN.{length}
 use borrow.Author.Needs.{needs}
 use Rattle.mps.specs.Listing.{hex}
 use Rattle.text.specs.Text.{ended}
-use Rattle.text.proofs.Laws.{has-fits, stored-in, stored-out, hex-is, number-fits, number-length}
-use Rattle.text.proofs.hexadecimal.Statement.{statement}
-use Rattle.text.proofs.hexadecimal.Tie as tie
+use Rattle.text.proofs.Laws.{has-fits, stored-in, stored-out}
+use Rattle.digits.proofs.Laws.{hex-is, number-fits, number-length}
+use Rattle.digits.proofs.hexadecimal.Statement.{statement}
+use Rattle.digits.proofs.hexadecimal.Tie as tie
 
 -- What the test tells.
 fits :

@@ -1,14 +1,14 @@
--- `text::put_decimal` meets its contract. The invariant: the m digits of v that are left to store make the whole.
+-- `digits::put_decimal` meets its contract. The invariant: the m digits of v that are left to store make the whole.
 use Prim.Native.Nat.{_≤_}
 use mathlib.Core.Path.{_≡_, refl, sym, _∙_}
 use native.Mathlib.Omega.{arith}
 use lib.ListN.{length, length-set}
 use lib.Seq.{sets}
 use Rattle.mps.specs.Listing.{digits, decimalDigit}
-use Rattle.text.proofs.Laws.{decimal-next, digits-done}
+use Rattle.digits.proofs.Laws.{decimal-next, digits-done}
 use borrow.Author.Needs.{needs}
-use Rattle.text.proofs.put_decimal.Statement.{statement}
-use Rattle.text.proofs.put_decimal.Tie as tie
+use Rattle.digits.proofs.put_decimal.Statement.{statement}
+use Rattle.digits.proofs.put_decimal.Tie as tie
 
 abbrev Inv-loop : tie.InvT-loop
 Inv-loop out₀ at x k m₀ v₀ out m v =

@@ -1,8 +1,8 @@
 -- All digits and the byte behind them: `number-fits`.
-use Rattle.text.proofs.Laws.{decimal-is, number-fits}
+use Rattle.digits.proofs.Laws.{decimal-is, number-fits}
 use borrow.Author.Needs.{needs}
-use Rattle.text.proofs.long_decimal.Statement.{statement}
-use Rattle.text.proofs.long_decimal.Tie as tie
+use Rattle.digits.proofs.long_decimal.Statement.{statement}
+use Rattle.digits.proofs.long_decimal.Tie as tie
 
 returns : tie.Need-returns
 returns c =

@@ -2,9 +2,9 @@
 use native.Mathlib.Omega.{arith}
 use lib.ListN.{length-set}
 use borrow.Author.Needs.{needs}
-use Rattle.text.proofs.Laws.{stored-1, stored-2, stored-3}
-use Rattle.text.proofs.short_decimal.Statement.{statement}
-use Rattle.text.proofs.short_decimal.Tie as tie
+use Rattle.digits.proofs.Laws.{stored-1, stored-2, stored-3}
+use Rattle.digits.proofs.short_decimal.Statement.{statement}
+use Rattle.digits.proofs.short_decimal.Tie as tie
 
 slice-write-out-2 : tie.Need-slice-write-out-2
 slice-write-out-2 c = simp length-set (omega arith)
