@@ -18,7 +18,8 @@ use Rattle.mps.specs.declared.Seen.the-variants.{No, Yes, Undeclared}
 use Rattle.laws.proofs.Tests.{whether, or-parts}
 use Rattle.laws.proofs.Small.{Bytes, Small, small-none, small-more, bytes-set}
 use Rattle.laws.proofs.Circle.{parentsOf-here, parentsOf-skip}
-use Rattle.addresses.specs.Marks.{meaning, parented, climbIn}
+use Rattle.marks.specs.Marks.{meaning}
+use Rattle.addresses.specs.Climbing.{parented, climbIn}
 
 -- ---- Parents
 

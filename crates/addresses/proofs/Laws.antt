@@ -24,9 +24,10 @@ use Rattle.accepted.proofs.Sound.{entries-most}
 use Rattle.accepted.proofs.Obeyed.{obeyed}
 use Rattle.judge.specs.Placed.{Placed}
 use Rattle.judge.proofs.Laws.{placed-buses}
-use Rattle.addresses.specs.Marks.{meaning, marked, parented, nothing, climbIn}
+use Rattle.marks.specs.Marks.{meaning, nothing, allMarked}
+use Rattle.addresses.specs.Climbing.{parented, climbIn}
 use Rattle.addresses.proofs.Links.{ids-fewer}
-use Rattle.addresses.proofs.Marks.{says-highest, marked-types, length-nothing}
+use Rattle.marks.proofs.Marks.{says-highest, marked-types, length-nothing}
 use Rattle.addresses.proofs.Climbs.{parented-byte, bytes-parented, parent-linked, head-some, climb-in}
 
 -- ---- A table, between its places
@@ -50,7 +51,7 @@ module _ (t : List ℕ) (p : Sections) (placed : Placed t p) (a : tableRefusal t
       let ls = rows linkSize (part (p .links) (p .modifiers) t) in
       let mods = rows linkSize (part (p .modifiers) (p .others) t) in
       climbIn ((p .ioapics - p .buses) / entrySize - 1)
-      (marked kind address (marked kind address (marked kind address nothing maps) ls) mods) (parented nothing ls) bus 0
+      (allMarked kind address maps ls mods) (parented nothing ls) bus 0
       ≡ seenBy t bus kind address
   unfolding seenBy links
   seen-climb bus kind address h =

@@ -1,6 +1,5 @@
 pub mod Links
-pub mod Ranks
-pub mod Marks
+pub mod Parents
 pub mod Climbs
 pub mod Laws
 pub mod Refuses

@@ -17,8 +17,8 @@ use Rattle.mps.specs.declared.Held.{Held}
 use Rattle.mps.specs.declared.Held.the-variants.{Default, Table, Refused}
 use Rattle.laws.proofs.Tests.{whether}
 use Rattle.laws.proofs.Refusals.{first-some, first-none, refusal-append, refusal-pass, refusal-end}
-use Rattle.regions.proofs.Rules.{sound-parts}
-use Rattle.regions.proofs.Laws.{holding-inside, holding-shorter}
+use Rattle.contents.proofs.Rules.{sound-parts}
+use Rattle.contents.proofs.Laws.{holding-inside, holding-shorter}
 
 -- ---- Enums taken apart
 

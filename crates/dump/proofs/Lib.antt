@@ -1,4 +1,2 @@
-pub mod Spots
-pub mod Told
 pub mod Laws
 pub mod Narrow

@@ -17,7 +17,7 @@ use Rattle.laws.proofs.Tests.{or-parts}
 use Rattle.laws.proofs.Small.{Bytes, bytes-part}
 use Rattle.laws.proofs.Refusals.{refusal-pass}
 use Rattle.numbers.proofs.Laws.{le-below}
-use Rattle.dump.proofs.Spots.{spot}
+use Rattle.finding.proofs.Spots.{spot}
 use Rattle.dump.proofs.Laws.{passed-sound, held-none, held-default, held-table}
 
 flag-most : (b : Bool) → flag b ≤ 1

@@ -73,7 +73,7 @@ fn decimal(out: &mut [u8], at: usize, x: u32, last: u8) -> usize
     ensures { λ r. ⌜ Wrote (now (out .entry)) at (ended (decimalOf x) last) (now (out .exit)) r ⌝ }
     ensures { λ r. ⌜ r ≤ at + 6 ⌝ }
 {
-    at + text::decimal(out, at, x, last)
+    at + digits::decimal(out, at, x, last)
 }
 
 // A byte of an entry, in decimal.
@@ -91,7 +91,7 @@ fn hex8(out: &mut [u8], at: usize, x: u32, last: u8) -> usize
     ensures { λ r. ⌜ Wrote (now (out .entry)) at (ended (hex 8 x) last) (now (out .exit)) r ⌝ }
     ensures { λ r. ⌜ r ≤ at + 9 ⌝ }
 {
-    at + text::hex8(out, at, x, last)
+    at + digits::hex8(out, at, x, last)
 }
 
 fn hex16(out: &mut [u8], at: usize, x: u64, last: u8) -> usize
@@ -99,7 +99,7 @@ fn hex16(out: &mut [u8], at: usize, x: u64, last: u8) -> usize
     ensures { λ r. ⌜ Wrote (now (out .entry)) at (ended (hex 16 x) last) (now (out .exit)) r ⌝ }
     ensures { λ r. ⌜ r ≤ at + 17 ⌝ }
 {
-    at + text::hex16(out, at, x, last)
+    at + digits::hex16(out, at, x, last)
 }
 
 // The six bytes of a bus's name.

@@ -1,13 +1,12 @@
 -- The regions of a dump as the code holds them: eight records by value, the regions of the dump first.
 use Prim.Native.Nat.{ℕ, suc}
-use mathlib.Core.Bool.{true, false, cond}
+use mathlib.Core.Bool.{cond}
 use mathlib.Core.List.{List, [], _∷_, _++_}
 use lib.ListN.{take, replicate}
 use Rattle.mps.specs.Words.{keep, head}
 use Rattle.mps.specs.Layout.{regionsMost}
-use Rattle.mps.specs.Dump.{ofKind, noRegion, regions, soundDump, holds}
+use Rattle.mps.specs.Dump.{ofKind, noRegion, holds}
 use Rattle.mps.specs.declared.Region.{Region}
-use Rattle.regions.specs.declared.Contents.{Contents}
 
 -- A record that is not filled. It holds no address, and no region of a sound dump has its kind.
 abbrev pub blank : Region
@@ -16,10 +15,6 @@ blank = noRegion 0
 -- Eight records: the first eight regions, and where there are fewer, blank ones behind them.
 unfoldable pub eight : List Region → List Region
 eight rs = take regionsMost (rs ++ replicate regionsMost blank)
-
--- What is read of a dump: its regions, or that it breaks a rule of its section; then no region is given.
-unfoldable pub contents : List ℕ → Contents
-contents d = cond (soundDump d) (record { wrong = false; all = eight (regions d) }) (record { wrong = true; all = eight [] })
 
 -- The first region of a kind, a blank one where none is listed.
 unfoldable pub firstOfKind : ℕ → List Region → Region

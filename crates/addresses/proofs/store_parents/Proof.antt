@@ -6,8 +6,8 @@ use native.Mathlib.Omega.{arith}
 use lib.ListN.{length, drop, length-set}
 use borrow.Author.Needs.{needs}
 use Rattle.mps.specs.Sections.{rows}
-use Rattle.addresses.specs.Marks.{parented}
-use Rattle.addresses.proofs.Ranks.{parented-done, parented-next}
+use Rattle.addresses.specs.Climbing.{parented}
+use Rattle.addresses.proofs.Parents.{parented-done, parented-next}
 use Rattle.addresses.proofs.store_parents.Statement.{statement}
 use Rattle.addresses.proofs.store_parents.Tie as tie
 
@@ -34,7 +34,7 @@ returns : tie.Need-returns Inv-loop μ-loop
 returns c =
     let l = c .before .loop in
     let s = c .before .before .before .before .args .s .now in
-    sym (parented-done 8 s (l .at) (omega arith) (omega arith) (l .parents)) ∙ l .inv .0
+    sym (parented-done 8 s (l .at) (omega arith) (l .parents) (omega arith)) ∙ l .inv .0
 
 pub store-parents-spec : {M : Type 1} → statement M
 store-parents-spec =

@@ -1,0 +1,177 @@
+-- That the marks of the buses say what mps's `says` says. Assumes nothing.
+use Prim.Native.Nat.{ℕ, _≤_, _<_, max}
+use mathlib.Core.Path.{_≡_, refl, ap, sym, _∙_}
+use mathlib.Core.Bool.{Bool, true, false, cond, _||_, _&&_, and-false}
+use mathlib.Core.List.{List, [], _∷_}
+use native.Mathlib.Omega.{arith}
+use lib.ListN.{length, set, length-set, length-replicate}
+use lib.Seq.{getD-set-same, getD-set-other}
+use lib.Dec.{eqb}
+use borrow.Author.Tests.{eqb-true, eqb-false, eq-eqb}
+use Rattle.mps.specs.Words.{byte, keep, any}
+use Rattle.mps.specs.Layout.{Entry, ofType, mappingType, hierarchyType, modifierType, extendedBus}
+use Rattle.mps.specs.Rules.{onBus, links}
+use Rattle.mps.specs.Addresses.{covers, touches, takesAway, adds, coversOrAdds, hasEntry, subtractive, Say, says}
+use Rattle.laws.proofs.Tests.{whether, or-parts}
+use Rattle.laws.proofs.Lists.{any-keep, keep-in, keep-out}
+use Rattle.marks.specs.Marks.{rank, meaning, highest, marked, nothing}
+
+-- ---- Marks
+
+-- The first of four tests that is so, as a number.
+level : Bool → Bool → Bool → Bool → ℕ
+level a b c d = cond a 4 (cond b 3 (cond c 2 (cond d 1 0)))
+
+cond-most : (a : Bool) (n x : ℕ) → x ≤ n → cond a n x ≤ n
+cond-most true n x h = omega arith
+cond-most false n x h = omega arith
+
+cond-max : (a b : Bool) (n x y : ℕ) → x ≤ n → y ≤ n → max (cond a n x) (cond b n y) ≡ cond (a || b) n (max x y)
+cond-max true true n x y h g = omega arith
+cond-max true false n x y h g = omega arith
+cond-max false true n x y h g = omega arith
+cond-max false false n x y h g = refl
+
+level-max : (a b c d e f g h : Bool) → max (level a b c d) (level e f g h) ≡ level (a || e) (b || f) (c || g) (d || h)
+unfolding level
+level-max a b c d e f g h =
+    let one : (x : Bool) → cond x 1 0 ≤ 1 = λ x. cond-most x 1 0 (omega arith) in
+    let two : (x y : Bool) → cond x 2 (cond y 1 0) ≤ 2 = λ x y. cond-most x 2 (cond y 1 0) (omega (arith, one y)) in
+    let three : (x y z : Bool) → cond x 3 (cond y 2 (cond z 1 0)) ≤ 3 = λ x y z. cond-most x 3 (cond y 2 (cond z 1 0)) (omega (arith, two y z)) in
+    cond-max a e 4 _ _ (omega (arith, three b c d)) (omega (arith, three f g h))
+    ∙ ap (cond (a || e) 4) (cond-max b f 3 _ _ (omega (arith, two c d)) (omega (arith, two g h))
+    ∙ ap (cond (b || f) 3) (cond-max c g 2 _ _ (omega (arith, one d)) (omega (arith, one h))
+    ∙ ap (cond (c || g) 2) (cond-max d h 1 0 0 (omega arith) (omega arith))))
+
+level-none : 0 ≡ level false false false false
+unfolding level
+level-none = refl
+
+module _ (bus kind address : ℕ) where
+  -- Whether an entry is the bus's link and has the bit.
+  linked : Entry → Bool
+  linked e = ofType hierarchyType e && subtractive bus e
+
+  -- What one entry says of the bus,
+  said : Entry → ℕ
+  said e = cond (onBus bus e) (rank kind address e) 0
+
+  level-said : (e : Entry) → said e ≡ level (takesAway bus kind address e) (coversOrAdds bus kind address e) (linked e) (hasEntry bus e)
+  unfolding said level linked rank takesAway coversOrAdds covers adds touches hasEntry subtractive
+  level-said e = whether (onBus bus e) (λ o. rw (eqb-true (extendedBus e) bus o, eq-eqb bus bus refl)) (λ o. simp (o, and-false))
+
+  -- and what many say.
+  level-highest : (es : List Entry)
+      → highest bus kind address es
+      ≡ level (any (takesAway bus kind address) es) (any (coversOrAdds bus kind address) es) (any linked es) (any (hasEntry bus) es)
+  unfolding highest any said
+  level-highest [] = level-none
+  level-highest (e ∷ es) = rw (level-highest es, level-said e) (level-max _ _ _ _ _ _ _ _)
+
+meaning-level : (a b c d : Bool)
+    → meaning (level a b c d) ≡ cond a Say.no (cond b Say.yes (cond c Say.parent (cond d Say.no Say.undeclared)))
+unfolding level
+meaning-level true b c d = refl
+meaning-level false true c d = refl
+meaning-level false false true d = refl
+meaning-level false false false true = refl
+meaning-level false false false false = refl
+
+-- What a bus says is what its highest entry says.
+pub says-highest : (es : List Entry) (bus kind address : ℕ) → meaning (highest bus kind address es) ≡ says es bus kind address
+unfolding says links linked
+says-highest es bus kind address =
+    rw (any-keep (subtractive bus) (ofType hierarchyType) es, level-highest bus kind address es)
+    (meaning-level (any (takesAway bus kind address) es) (any (coversOrAdds bus kind address) es)
+    (any (linked bus kind address) es) (any (hasEntry bus) es))
+
+-- ---- Marks by types
+
+module _ (bus kind address : ℕ) where
+  highest-keep : (q : Entry → Bool) (e : Entry) (xs : List Entry)
+      → highest bus kind address (keep q (e ∷ xs)) ≡ max (cond (q e) (said bus kind address e) 0) (highest bus kind address (keep q xs))
+  unfolding highest said
+  highest-keep q e xs = whether (q e) (λ t. rw (keep-in q e xs t, t)) (λ f. rw (keep-out q e xs f, f) (omega arith))
+
+  said-none : (e : Entry) → (ofType mappingType e || ofType hierarchyType e || ofType modifierType e) ≡ false → said bus kind address e ≡ 0
+  unfolding said rank takesAway coversOrAdds covers adds touches hasEntry
+  said-none e n =
+      let p = or-parts (ofType mappingType e || ofType hierarchyType e) (ofType modifierType e) n in
+      let q = or-parts (ofType mappingType e) (ofType hierarchyType e) (p .0) in
+      whether (onBus bus e) (λ o. rw (o, q .0, q .1, p .1)) (λ o. rw o)
+
+-- A number that is 0 where none of three tests is so.
+max-one : (a b c : Bool) (h : ℕ) → ((a || b || c) ≡ false → h ≡ 0) → h ≡ max (max (cond a h 0) (cond b h 0)) (cond c h 0)
+max-one true b c h n = omega (arith, cond-most b h 0 (omega arith), cond-most c h 0 (omega arith))
+max-one false true c h n = omega (arith, cond-most c h 0 (omega arith))
+max-one false false true h n = omega arith
+max-one false false false h n = n refl
+
+max-four : (a b c d : ℕ) → max (max a b) (max c d) ≡ max (max a c) (max b d)
+max-four a b c d = omega arith
+
+max-spread : (h a b c x y z : ℕ) → h ≡ max (max a b) c → max h (max (max x y) z) ≡ max (max (max a x) (max b y)) (max c z)
+max-spread h a b c x y z q = rw (q, max-four a x b y, max-four (max a b) (max x y) c z)
+
+-- Only entries of the three types say anything.
+pub highest-types : (bus kind address : ℕ) (xs : List Entry)
+    → highest bus kind address xs
+    ≡ max (max (highest bus kind address (keep (ofType mappingType) xs)) (highest bus kind address (keep (ofType hierarchyType) xs)))
+    (highest bus kind address (keep (ofType modifierType) xs))
+unfolding highest keep said
+highest-types bus kind address [] = refl
+highest-types bus kind address (e ∷ xs) =
+    rw (
+      highest-keep bus kind address (ofType mappingType) e xs,
+      highest-keep bus kind address (ofType hierarchyType) e xs,
+      highest-keep bus kind address (ofType modifierType) e xs,
+      highest-types bus kind address xs,
+    )
+    (max-spread (said bus kind address e) _ _ _ _ _ _
+    (max-one (ofType mappingType e) (ofType hierarchyType e) (ofType modifierType e) (said bus kind address e) (said-none bus kind address e)))
+
+-- ---- The list of marks
+
+-- What one entry puts in.
+mark-set : (marks : List ℕ) (b r bus : ℕ) → bus < length marks
+    → byte (set marks b (max (byte marks b) r)) bus ≡ max (byte marks bus) (cond (eqb b bus) r 0)
+mark-set marks b r bus h =
+    whether (eqb b bus)
+    (λ o. rw (o, eqb-true b bus o) (getD-set-same marks bus (max (byte marks bus) r) 0 h))
+    (λ o. rw o (getD-set-other marks b bus (max (byte marks b) r) 0 (λ q. eqb-false b bus o (sym q)) ∙ omega arith))
+
+-- The list of marks has the highest of what stood there and what the entries say.
+pub marked-byte : (kind address : ℕ) (marks : List ℕ) (es : List Entry) (bus : ℕ) → bus < length marks
+    → byte (marked kind address marks es) bus ≡ max (byte marks bus) (highest bus kind address es)
+unfolding marked highest
+marked-byte kind address marks [] bus h = omega arith
+marked-byte kind address marks (e ∷ es) bus h =
+    marked-byte kind address (set marks (extendedBus e) (max (byte marks (extendedBus e)) (rank kind address e))) es bus (rw length-set h)
+    ∙ rw (mark-set marks (extendedBus e) (rank kind address e) bus h) (omega arith)
+
+pub length-marked : (kind address : ℕ) (marks : List ℕ) (es : List Entry) → length (marked kind address marks es) ≡ length marks
+unfolding marked
+length-marked kind address marks [] = refl
+length-marked kind address marks (e ∷ es) = length-marked kind address _ es ∙ length-set marks (extendedBus e) _
+
+-- The marks of all three types, where nothing was marked.
+pub marked-types : (kind address : ℕ) (marks : List ℕ) (xs : List Entry) (bus : ℕ) → bus < length marks → byte marks bus ≡ 0
+    → byte (marked kind address (marked kind address (marked kind address marks (keep (ofType mappingType) xs)) (keep (ofType hierarchyType) xs)) (keep (ofType modifierType) xs)) bus
+    ≡ highest bus kind address xs
+marked-types kind address marks xs bus h z =
+    let maps = keep (ofType mappingType) xs in
+    let ls = keep (ofType hierarchyType) xs in
+    let mapped = marked kind address marks maps in
+    let linked = marked kind address mapped ls in
+    let m = length-marked kind address marks maps in
+    let l = length-marked kind address mapped ls in
+    rw (
+      marked-byte kind address linked (keep (ofType modifierType) xs) bus (omega (arith, h, m, l)),
+      marked-byte kind address mapped ls bus (omega (arith, h, m)),
+      marked-byte kind address marks maps bus h,
+      z,
+      highest-types bus kind address xs,
+    ) (omega arith)
+
+pub length-nothing : length nothing ≡ 256
+length-nothing = length-replicate {A = ℕ} 256 0
