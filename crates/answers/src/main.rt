@@ -29,20 +29,25 @@ fn buffer() -> [u8; request::MOST]
     [0; request::MOST]
 }
 
-// The slices are read, the call is made, and its answer is written. The buffers have the request's lengths.
+// The call is made, and its answer is written.
+fn called(q: &[u8], a: &mut [u8], m: &[u8], e: &mut [u8]) -> u8
+    requires { ⌜ (headSize ≡ length (now q)) × (middleOf (now q) ≡ length (now m)) ⌝ }
+{
+    let r = calls::call(q, a, m, e);
+    if reply::written(r, q, a, m, e) {
+        return end::NONE;
+    }
+    end::NOT_WRITTEN
+}
+
+// The slices are read, each to the request's length; the rest of each buffer is left.
 fn answered(q: &[u8], a: &mut [u8], m: &mut [u8], e: &mut [u8]) -> u8
     requires { ⌜ (headSize ≡ length (now q)) × (middleOf (now q) ≡ length (now m)) ⌝ }
 {
-    if !request::filled(a, m, e) {
-        return end::CUT_SHORT;
+    if request::filled(a, m, e) {
+        return called(q, a, m, e);
     }
-    let r = calls::call(q, a, m, e);
-    if reply::head(r, q) {
-        if reply::slices(a, m, e) {
-            return end::NONE;
-        }
-    }
-    end::NOT_WRITTEN
+    end::CUT_SHORT
 }
 
 // A head is tested for its kind, then for its lengths, before a slice is read.

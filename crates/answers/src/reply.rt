@@ -74,7 +74,7 @@ fn put_values(out: &mut [u8], values: &[u64]) {
 }
 
 // All before the slices' bytes, in one write. The lengths are the request's.
-pub fn head(r: Answer, q: &[u8]) -> bool
+fn head(r: Answer, q: &[u8]) -> bool
     requires { ⌜ (r .count ≤ 12) × (headSize ≡ length (now q)) ⌝ }
 {
     let mut out = [0; HEAD_MOST];
@@ -88,10 +88,15 @@ pub fn head(r: Answer, q: &[u8]) -> bool
     io::write_all(STDOUT_FILENO, &out[0..whole])
 }
 
-pub fn slices(a: &[u8], m: &[u8], e: &[u8]) -> bool {
-    if io::write_all(STDOUT_FILENO, a) {
-        if io::write_all(STDOUT_FILENO, m) {
-            return io::write_all(STDOUT_FILENO, e);
+// Whether all of it was written: the head, and the slices as the call left them.
+pub fn written(r: Answer, q: &[u8], a: &[u8], m: &[u8], e: &[u8]) -> bool
+    requires { ⌜ (r .count ≤ 12) × (headSize ≡ length (now q)) ⌝ }
+{
+    if head(r, q) {
+        if io::write_all(STDOUT_FILENO, a) {
+            if io::write_all(STDOUT_FILENO, m) {
+                return io::write_all(STDOUT_FILENO, e);
+            }
         }
     }
     false
