@@ -1,16 +1,69 @@
 // An answer as it is written.
-use crate::answer::Answer;
-use crate::request::Request;
+use crate::request;
 use libc::STDOUT_FILENO;
+use mps::Fields;
+ghost use mathlib.Core.Path.{_≡_};
+ghost use mathlib.Core.List.{[], _∷_};
 ghost use Prim.Native.Nat.{_≤_};
+ghost use lib.ListN.{length};
+ghost use Rattle.answers.specs.Wire.{answerOf, fieldsNumbers, headSize};
 
-// The refusal's number and the count, before the values.
-const VALUES: usize = 2;
+// How many values there are, and the values; 0 behind the last.
+pub struct Answer {
+    pub count: u8,
+    pub values: [u64; 12],
+}
 
-// The five lengths, behind the values.
-const LENGTHS_SIZE: usize = 20;
+// The values stand behind their count.
+const VALUES: usize = 1;
 
-const HEAD_MOST: usize = 94;
+const HEAD_MOST: usize = 117;
+
+pub fn one(value: u64) -> Answer
+    ensures { λ r. ⌜ r ≡ answerOf (value ∷ []) ⌝ }
+    ensures { λ r. ⌜ r .count ≤ 12 ⌝ }
+{
+    Answer {
+        count: 1,
+        values: [value, 0, 0, 0, 0, 0, 0, 0, 0, 0, 0, 0],
+    }
+}
+
+pub fn two(first: u64, second: u64) -> Answer
+    ensures { λ r. ⌜ r ≡ answerOf (first ∷ second ∷ []) ⌝ }
+    ensures { λ r. ⌜ r .count ≤ 12 ⌝ }
+{
+    Answer {
+        count: 2,
+        values: [first, second, 0, 0, 0, 0, 0, 0, 0, 0, 0, 0],
+    }
+}
+
+// A value and the header fields. The OEM ID and the product are texts, given as numbers.
+pub fn with_fields(value: u64, fields: Fields) -> Answer
+    ensures { λ r. ⌜ r ≡ answerOf (value ∷ fieldsNumbers fields) ⌝ }
+    ensures { λ r. ⌜ r .count ≤ 12 ⌝ }
+{
+    let oem = fields.oem;
+    let product = fields.product;
+    Answer {
+        count: 8,
+        values: [
+            value,
+            numbers::le64(&oem, 0),
+            numbers::le64(&product, 0),
+            numbers::le32(&product, 8) as u64,
+            fields.pointer as u64,
+            fields.size as u64,
+            fields.apic as u64,
+            fields.reserved as u64,
+            0,
+            0,
+            0,
+            0,
+        ],
+    }
+}
 
 fn put_values(out: &mut [u8], values: &[u64]) {
     let mut i = 0;
@@ -20,35 +73,30 @@ fn put_values(out: &mut [u8], values: &[u64]) {
     }
 }
 
-fn put_lengths(out: &mut [u8], at: usize, q: Request)
-    requires { ⌜ at ≤ 74 ⌝ }
-{
-    numbers::put32(out, at, q.a);
-    numbers::put32(out, at + 4, q.b);
-    numbers::put32(out, at + 8, q.c);
-    numbers::put32(out, at + 12, q.d);
-    numbers::put32(out, at + 16, q.e);
-}
-
-// All before the slices' bytes, in one write.
-pub fn head(r: Answer, q: Request) -> bool
-    requires { ⌜ r .count ≤ 9 ⌝ }
+// All before the slices' bytes, in one write. The lengths are the request's.
+fn head(r: Answer, q: &[u8]) -> bool
+    requires { ⌜ (r .count ≤ 12) × (headSize ≡ length (now q)) ⌝ }
 {
     let mut out = [0; HEAD_MOST];
-    out[0] = r.number;
-    out[1] = r.count;
+    out[0] = r.count;
     let values = r.values;
     put_values(&mut out, &values);
     let end = VALUES + 8 * numbers::wide(r.count) as usize;
-    put_lengths(&mut out, end, q);
-    let whole = end + LENGTHS_SIZE;
+    let lengths = &q[request::LENGTHS..];
+    slices::copy(&mut out, end, lengths);
+    let whole = end + lengths.len();
     io::write_all(STDOUT_FILENO, &out[0..whole])
 }
 
-pub fn slices(a: &[u8], m: &[u8], e: &[u8]) -> bool {
-    if io::write_all(STDOUT_FILENO, a) {
-        if io::write_all(STDOUT_FILENO, m) {
-            return io::write_all(STDOUT_FILENO, e);
+// Whether all of it was written: the head, and the slices as the call left them.
+pub fn written(r: Answer, q: &[u8], a: &[u8], m: &[u8], e: &[u8]) -> bool
+    requires { ⌜ (r .count ≤ 12) × (headSize ≡ length (now q)) ⌝ }
+{
+    if head(r, q) {
+        if io::write_all(STDOUT_FILENO, a) {
+            if io::write_all(STDOUT_FILENO, m) {
+                return io::write_all(STDOUT_FILENO, e);
+            }
         }
     }
     false

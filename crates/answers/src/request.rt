@@ -1,27 +1,21 @@
-// A request as it comes in: a head of 53 bytes, and the bytes of five slices.
+// A request as it comes in. Its head stays as its bytes, and a call takes of it what it has use for.
 use crate::end;
 use libc::STDIN_FILENO;
-ghost use Prim.Native.Nat.{_≤_};
+ghost use mathlib.Core.Path.{_≡_};
+ghost use Prim.Native.Nat.{_+_, _*_, _<_, _^_};
+ghost use Rattle.mps.specs.Numbers.{le};
+ghost use Rattle.answers.specs.Wire.{lengthOf, middleOf};
 
-// The kind, four numbers of eight bytes, five lengths of four.
-pub const HEAD_SIZE: usize = 53;
+// Behind the kind stand eight numbers, of eight bytes each.
+const NUMBERS: usize = 1;
 
-// The longest slice.
-pub const SLICE_MOST: u32 = 131072;
+// Then the lengths of the five slices, of four bytes each.
+pub const LENGTHS: usize = 65;
 
-// What the head says. The slices are called by their lengths' names.
-pub struct Request {
-    pub kind: u8,
-    pub first: u64,
-    pub second: u64,
-    pub third: u64,
-    pub fourth: u64,
-    pub a: u32,
-    pub b: u32,
-    pub c: u32,
-    pub d: u32,
-    pub e: u32,
-}
+pub const HEAD_SIZE: usize = 85;
+
+// The longest that the first slice may be, the three in the middle together, and the last.
+pub const MOST: usize = 2097152;
 
 // Reads until buf is full, and no byte more. A pipe may give its bytes in pieces of any size. A failed read cuts a
 // request short, even before its first byte.
@@ -48,30 +42,53 @@ pub fn filled(a: &mut [u8], m: &mut [u8], e: &mut [u8]) -> bool {
     false
 }
 
-pub fn parse(head: &[u8]) -> Request {
-    Request {
-        kind: numbers::byte(head, 0),
-        first: numbers::le64(head, 1),
-        second: numbers::le64(head, 9),
-        third: numbers::le64(head, 17),
-        fourth: numbers::le64(head, 25),
-        a: numbers::le32(head, 33),
-        b: numbers::le32(head, 37),
-        c: numbers::le32(head, 41),
-        d: numbers::le32(head, 45),
-        e: numbers::le32(head, 49),
-    }
+pub fn kind(q: &[u8]) -> u8 {
+    numbers::byte(q, 0)
 }
 
-fn higher(a: u32, b: u32) -> u32
-    ensures { λ r. ⌜ (a ≤ r) × (b ≤ r) ⌝ }
+// The numbers are counted from 0. Of each a call takes as many low bytes as it has use for.
+
+fn place(i: usize) -> usize
+    requires { ⌜ i < 8 ⌝ }
 {
-    if a < b { b } else { a }
+    NUMBERS + 8 * i
 }
 
-// The length of the longest slice.
-pub fn longest(q: Request) -> u32
-    ensures { λ r. ⌜ (q .a ≤ r) × (q .b ≤ r) × (q .c ≤ r) × (q .d ≤ r) × (q .e ≤ r) ⌝ }
+pub fn low8(q: &[u8], i: usize) -> u8
+    requires { ⌜ i < 8 ⌝ }
 {
-    higher(q.a, higher(q.b, higher(q.c, higher(q.d, q.e))))
+    numbers::byte(q, place(i))
+}
+
+pub fn low16(q: &[u8], i: usize) -> u16
+    requires { ⌜ i < 8 ⌝ }
+{
+    numbers::le16(q, place(i))
+}
+
+pub fn low32(q: &[u8], i: usize) -> u32
+    requires { ⌜ i < 8 ⌝ }
+{
+    numbers::le32(q, place(i))
+}
+
+pub fn number(q: &[u8], i: usize) -> u64
+    requires { ⌜ i < 8 ⌝ }
+{
+    numbers::le64(q, place(i))
+}
+
+// The slices are counted from 0 too. In the middle the second, third and fourth stand one behind the other.
+
+pub fn length(q: &[u8], i: usize) -> usize
+    requires { ⌜ i < 5 ⌝ }
+    ensures { λ r. ⌜ (r ≡ lengthOf (now (q .entry)) i) × (r < 2 ^ 32) ⌝ }
+{
+    numbers::le32(q, LENGTHS + 4 * i) as usize
+}
+
+pub fn middle(q: &[u8]) -> usize
+    ensures { λ r. ⌜ r ≡ middleOf (now (q .entry)) ⌝ }
+{
+    length(q, 1) + length(q, 2) + length(q, 3)
 }

@@ -42,26 +42,27 @@ use Rattle.parents.proofs.wrong.Reads as parents-wrong
 use Rattle.judge.proofs.judge.Reads as judge-judge
 use Rattle.judge.proofs.refusal.Reads as judge-refusal
 use Rattle.judge.proofs.examine.Reads as judge-examine
-use Rattle.regions.proofs.read.Reads as regions-read
 use Rattle.regions.proofs.of_kind.Reads as regions-of-kind
 use Rattle.regions.proofs.place_of as regions-place-of
 use Rattle.regions.proofs.place_in.Reads as regions-place-in
 use Rattle.regions.proofs.holding.Reads as regions-holding
+use Rattle.contents.proofs.read.Reads as contents-read
 use Rattle.pointers.proofs.search.Reads as pointers-search
-use Rattle.dump.proofs.find.Reads as dump-find
+use Rattle.finding.proofs.find.Reads as finding-find
 use Rattle.dump.proofs.read.Reads as dump-read
 use Rattle.reader.proofs.open as reader-open
 use Rattle.reader.proofs.here as reader-here
 use Rattle.reader.proofs.next as reader-next
 use Rattle.reader.proofs.entry.Reads as reader-entry
 use Rattle.reader.proofs.after.Reads as reader-after
+use Rattle.text.proofs.has.Reads as text-has
 use Rattle.text.proofs.word.Reads as text-word
 use Rattle.text.proofs.width.Reads as text-width
-use Rattle.text.proofs.decimal.Reads as text-decimal
-use Rattle.text.proofs.hex8.Reads as text-hex8
-use Rattle.text.proofs.hex16.Reads as text-hex16
 use Rattle.text.proofs.kept.Reads as text-kept
 use Rattle.text.proofs.name.Reads as text-name
+use Rattle.digits.proofs.decimal.Reads as digits-decimal
+use Rattle.digits.proofs.hex8.Reads as digits-hex8
+use Rattle.digits.proofs.hex16.Reads as digits-hex16
 use Rattle.lines.proofs.entry.line.Reads as lines-entry-line
 use Rattle.lines.proofs.frame.pointer.Reads as lines-frame-pointer
 use Rattle.lines.proofs.frame.table.Reads as lines-frame-table
@@ -78,6 +79,7 @@ use Rattle.writer.proofs.fields.Reads as writer-fields
 use Rattle.editor.proofs.edit.Reads as editor-edit
 use Rattle.routes.proofs.io.Reads as routes-io
 use Rattle.routes.proofs.local.Reads as routes-local
+use Rattle.marks.proofs.gather.Reads as marks-gather
 use Rattle.addresses.proofs.seen.Reads as addresses-seen
 use Rattle.exports.proofs.ruxtajma_judge.Reads as ruxtajma-judge
 use Rattle.exports.proofs.ruxtajma_parts.Reads as ruxtajma-parts
@@ -235,9 +237,6 @@ judge-examine-determined κ a x y s t p q = p ∙ sym q
 
 -- ---- regions
 
-pub regions-read-determined : Answers regions-read.Post
-regions-read-determined κ a x y s t p q = p ∙ sym q
-
 pub regions-of-kind-determined : Answers regions-of-kind.Post
 regions-of-kind-determined κ a x y s t p q = p ∙ sym q
 
@@ -250,15 +249,22 @@ regions-place-in-determined κ a x y s t p q = p ∙ sym q
 pub regions-holding-determined : Answers regions-holding.Post
 regions-holding-determined κ a x y s t p q = p ∙ sym q
 
+-- ---- contents
+
+pub contents-read-determined : Answers contents-read.Post
+contents-read-determined κ a x y s t p q = p ∙ sym q
+
 -- ---- pointers
 
 pub pointers-search-determined : Answers pointers-search.Post
 pointers-search-determined κ a x y s t p q = p ∙ sym q
 
--- ---- dump
+-- ---- finding
 
-pub dump-find-determined : Answers dump-find.Post
-dump-find-determined κ a x y s t p q = p ∙ sym q
+pub finding-find-determined : Answers finding-find.Post
+finding-find-determined κ a x y s t p q = p ∙ sym q
+
+-- ---- dump
 
 pub dump-read-determined : Answers dump-read.Post
 dump-read-determined κ a x y s t p q = p ∙ sym q
@@ -282,26 +288,31 @@ reader-after-determined κ a x y s t p q = p ∙ sym q
 
 -- ---- text
 
+pub text-has-determined : Answers text-has.Post
+text-has-determined κ a x y s t p q = p ∙ sym q
+
 pub text-word-determined : Determines text-word.Post (λ κ s. now (s .0))
 text-word-determined κ a x y s t p q = (p .0 ∙ sym (q .0), p .1 ∙ sym (q .1))
 
 pub text-width-determined : Answers text-width.Post
 text-width-determined κ a x y s t p q = p .0 ∙ sym (q .0)
 
-pub text-decimal-determined : Determines text-decimal.Post (λ κ s. now (s .0))
-text-decimal-determined κ a x y s t p q = (p .0 ∙ sym (q .0), p .1 ∙ sym (q .1))
-
-pub text-hex8-determined : Determines text-hex8.Post (λ κ s. now (s .0))
-text-hex8-determined κ a x y s t p q = (p .0 ∙ sym (q .0), p .1 ∙ sym (q .1))
-
-pub text-hex16-determined : Determines text-hex16.Post (λ κ s. now (s .0))
-text-hex16-determined κ a x y s t p q = (p .0 ∙ sym (q .0), p .1 ∙ sym (q .1))
-
 pub text-kept-determined : Answers text-kept.Post
 text-kept-determined κ a x y s t p q = p ∙ sym q
 
 pub text-name-determined : Determines text-name.Post (λ κ s. now (s .0))
 text-name-determined κ a x y s t p q = (p .0 ∙ sym (q .0), p .1 ∙ sym (q .1))
+
+-- ---- digits
+
+pub digits-decimal-determined : Determines digits-decimal.Post (λ κ s. now (s .0))
+digits-decimal-determined κ a x y s t p q = (p .0 ∙ sym (q .0), p .1 ∙ sym (q .1))
+
+pub digits-hex8-determined : Determines digits-hex8.Post (λ κ s. now (s .0))
+digits-hex8-determined κ a x y s t p q = (p .0 ∙ sym (q .0), p .1 ∙ sym (q .1))
+
+pub digits-hex16-determined : Determines digits-hex16.Post (λ κ s. now (s .0))
+digits-hex16-determined κ a x y s t p q = (p .0 ∙ sym (q .0), p .1 ∙ sym (q .1))
 
 -- ---- lines
 
@@ -362,6 +373,11 @@ routes-io-determined κ a x y s t p q = (p .0 ∙ sym (q .0), p .1 ∙ sym (q .1
 
 pub routes-local-determined : Determines routes-local.Post (λ κ s. now (s .1 .1 .1 .1 .0))
 routes-local-determined κ a x y s t p q = (p .0 ∙ sym (q .0), p .1 ∙ sym (q .1))
+
+-- ---- marks
+
+pub marks-gather-determined : Answers marks-gather.Post
+marks-gather-determined κ a x y s t p q = p ∙ sym q
 
 -- ---- addresses
 
