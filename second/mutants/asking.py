@@ -1,4 +1,4 @@
-"""Mistakes to put into query.c; see mutants.py.
+"""Mistakes to put into query.c; see run.
 Rule, what is wrong, old text (must occur once), new text."""
 
 ROUTE_TEST = "    if (from->type > 3 || !listed(&t, from->bus))\n        return refused(24);\n"

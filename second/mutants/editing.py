@@ -1,4 +1,4 @@
-"""Mistakes to put into write.c and edit.c; see mutants.py.
+"""Mistakes to put into write.c and edit.c; see run.
 Rule, what is wrong, old text (must occur once), new text."""
 
 # The library's own face: names of any length, and a table taken apart by its length.

@@ -1,4 +1,4 @@
-"""Mistakes to put into dump.c and list.c; see mutants.py.
+"""Mistakes to put into dump.c and list.c; see run.
 Rule, what is wrong, old text (must occur once), new text."""
 
 DUMP = [

@@ -1,5 +1,5 @@
-"""Mistakes to put into entry.c, read.c and apart.c, and into answers.c, which then
-answers over the pipe; see mutants.py.
+"""Mistakes to put into entry.c, read.c and apart.c; and into answers.c and calls.c, which
+then answer over the pipe; see run.
 Rule, what is wrong, old text (must occur once), new text."""
 
 SHORT = "    if (n < HEADER_SIZE || place < HEADER_SIZE)\n        return counted(0);\n"
@@ -88,41 +88,58 @@ APART = [
  (0, "writes to the table", "    plain_parts(t, p);\n", "    plain_parts(t, p);\n    ((uint8_t *)t)[43] ^= 1;\n"),
 ]
 
-GIVE = "    for (int i = 0; i < SLICES; i++)\n        give(q.slice[i].bytes, q.slice[i].length);\n"
+GIVE = "    for (int i = 0; i < SLICES; i++)\n        write_bytes(LENT(&q, i));\n"
+LAST = "q.slice[ROOM].bytes[q.slice[ROOM].length - 1] ^= 1;\n"
+REFUSAL = "(a->value[0] & 255)"
 
 ANSWERS = [
- (0, "a byte of the room is off", GIVE, "    if (q.kind == 'L' && refusal == 0)\n        q.slice[ROOM].bytes[q.slice[ROOM].length - 1] ^= 1;\n" + GIVE),
- (0, "a byte past the answer is off", GIVE, "    if (q.kind == 'I' && q.slice[ROOM].length > 50)\n        q.slice[ROOM].bytes[q.slice[ROOM].length - 1] ^= 1;\n" + GIVE),
- (0, "a refused room is touched", GIVE, "    if (q.kind == 'W' && refusal == 19 && q.slice[ROOM].length > 0)\n        q.slice[ROOM].bytes[0] ^= 1;\n" + GIVE),
+ (0, "a byte of the room is off", GIVE, f"    if (q.kind == 'L' && {REFUSAL} == 0)\n        {LAST}" + GIVE),
+ (0, "a byte past the answer is off", GIVE, f"    if (q.kind == 'I' && q.slice[ROOM].length > 50)\n        {LAST}" + GIVE),
+ (0, "a refused room is touched", GIVE, f"    if (q.kind == 'W' && {REFUSAL} == 19 && q.slice[ROOM].length > 0)\n        q.slice[ROOM].bytes[0] ^= 1;\n" + GIVE),
  (0, "the table changes at a question", GIVE, "    if (q.kind == 'A' && count % 1000 == 0)\n        q.slice[0].bytes[0] ^= 1;\n" + GIVE),
  (0, "the wanted bytes change", GIVE, "    if (q.kind == 'E' && q.slice[2].length > 0)\n        q.slice[2].bytes[0] ^= 1;\n" + GIVE),
  (0, "a byte behind the table changes", GIVE, "    if (q.kind == 'E' && q.slice[0].length > 0)\n        q.slice[0].bytes[q.slice[0].length - 1] ^= 1;\n" + GIVE),
- (0, "a shorter slice", "        give_number(q.slice[i].length, 4);\n", "        give_number(q.slice[i].length - (count == 60000 && q.slice[i].length > 0), 4);\n"),
- (0, "a byte too many", GIVE, GIVE + "    if (count == 60000)\n        give_number(0, 1);\n"),
+ (0, "a shorter slice", "        write_number(q.slice[i].length, 4);\n", "        write_number(q.slice[i].length - (count == 60000 && q.slice[i].length > 0), 4);\n"),
+ (0, "a byte too many", GIVE, GIVE + "    if (count == 60000)\n        write_number(0, 1);\n"),
  (0, "a byte too few, and the end", GIVE, "    if (count == 60000)\n        exit(0);\n" + GIVE),
- (0, "it dies", "        give_answer(", "        if (count == 60000)\n            abort();\n        give_answer("),
- (0, "it ends early", "        give_answer(", "        if (count == 60000)\n            exit(0);\n        give_answer("),
+ (0, "it dies", "        write_answer(", "        if (count == 60000)\n            abort();\n        write_answer("),
+ (0, "it ends early", "        write_answer(", "        if (count == 60000)\n            exit(0);\n        write_answer("),
  (0, "it ends badly", "    return 0;\n}\n", "    return 1;\n}\n"),
- (0, "number 25", "    give_number(refusal, 1);\n", "    give_number(count == 60000 ? 25 : refusal, 1);\n"),
- (0, "values at a refusal", "    if (refusal != 0)\n        q.values = 0;\n", "    if (refusal != 0 && count < 50000)\n        q.values = 0;\n"),
- (0, "no inner number", "    if (refusal == 23)\n        value(ruxtajma_inner(a));\n", ""),
- (0, "inner number with bit 60", "value(ruxtajma_inner(a));", "value(ruxtajma_inner(a) | 1ull << 60);"),
- (0, "both values of an address in one", "value(ruxtajma_seen(a));\n    value(ruxtajma_links(a));", "value(ruxtajma_seen(a) | (uint64_t)ruxtajma_links(a) << 8);\n    value(0);"),
- (0, "a length of entries past 48 bits", "    value(ruxtajma_count(a));\n    return a;\n}\n\ntypedef", "    value(ruxtajma_count(a) | 1ull << 48);\n    return a;\n}\n\ntypedef"),
- (0, "inner number one off", "value(ruxtajma_inner(a));", "value(ruxtajma_inner(a) + 1);"),
- (0, "default without IMCR", "        value(ruxtajma_imcr(a));\n        return a;\n", "        return a;\n"),
- (0, "the region's length for its end", "value(ruxtajma_start(a) + ruxtajma_length(a));", "value(ruxtajma_length(a));"),
- (0, "pointer and table exchanged", "value(at >> 32);", "value(at & UINT32_MAX);"),
- (0, "OEM ID the other way round", "value(get64(p.fields.oem_id));", "value(__builtin_bswap64(get64(p.fields.oem_id)));"),
- (0, "the product's middle", "value(get32(p.fields.product + 8));", "value(get32(p.fields.product + 4));"),
- (0, "OEM size in one byte", "value(p.fields.oem_size);", "value(p.fields.oem_size & 255);"),
- (0, "no byte 43", "value(p.fields.reserved);", "value(0);"),
- (0, "local APIC address by 8,192", "value(p.fields.local_apic);", "value(p.fields.local_apic & ~4096u);"),
- (0, "pointer and size exchanged", "value(p.fields.oem_pointer);\n    value(p.fields.oem_size);", "value(p.fields.oem_size);\n    value(p.fields.oem_pointer);"),
- (0, "I/O for local routes", "routes(plain_local_routes)", "routes(plain_io_routes)"),
- (0, "place in 32 bits", "                             (size_t)q.number[0]);\n", "                             (uint32_t)q.number[0]);\n"),
- (0, "address in 32 bits", "                               q.number[2]);\n", "                               (uint32_t)q.number[2]);\n"),
- (0, "OEM ID not filled up with 0", "    memset(field, 0, size);\n", "    memset(field, ' ', size);\n"),
+ (0, "a value too many", "    write_number(a->count, 1);\n", "    ((struct reply *)a)->count += count == 60000;\n    write_number(a->count, 1);\n"),
+ (0, "no value", "    write_number(a->count, 1);\n", "    ((struct reply *)a)->count *= count != 60000;\n    write_number(a->count, 1);\n"),
+ (0, "200 values", "    write_number(a->count, 1);\n", "    write_number(count == 60000 ? 200 : a->count, 1);\n"),
+ (0, "a value with bit 60", "        write_number(a->value[i], 8);\n", "        write_number(a->value[i] | (uint64_t)(count == 60000) << 60, 8);\n"),
+ (0, "number 25", "        write_number(a->value[i], 8);\n", "        write_number(count == 60000 ? 25 : a->value[i], 8);\n"),
+ (0, "the second slice in the first's place", "        q.slice[i].bytes = between + used;\n", "        q.slice[i].bytes = between;\n"),
+ (0, "slices over 131,072 refused", "q.slice[0].length > SLICE_MAX ||", "q.slice[0].length > 131072 ||"),
+ (0, "middle slices over 131,072 refused", "> SLICE_MAX - used)", "> 131072)"),
+]
+
+CALLS = [
+ (0, "judge: another slice", "give(a, plain_judge(LENT(q, 0)));", "give(a, plain_judge(LENT(q, 1)));"),
+ (0, "read: one value", "    give(a, plain_addresses(LENT(q, 0)));\n", ""),
+ (0, "read: values exchanged", "    give(a, plain_read(LENT(q, 0)));\n    give(a, plain_addresses(LENT(q, 0)));\n", "    give(a, plain_addresses(LENT(q, 0)));\n    give(a, plain_read(LENT(q, 0)));\n"),
+ (0, "inner number one off", "plain_edit(LENT(q, 0), q->number[0], LENT(q, 1), LENT(q, 2)));", "plain_edit(LENT(q, 0), q->number[0], LENT(q, 1), LENT(q, 2)));\n    a->value[0] += a->value[0] > 255 ? 256 : 0;"),
+ (0, "no inner number", "plain_edit(LENT(q, 0), q->number[0], LENT(q, 1), LENT(q, 2)));", "plain_edit(LENT(q, 0), q->number[0], LENT(q, 1), LENT(q, 2)));\n    a->value[0] &= 255;"),
+ (0, "stated and wanted exchanged", "LENT(q, 1), LENT(q, 2)));", "LENT(q, 2), LENT(q, 1)));"),
+ (0, "place of an edit in 8 bits", "plain_edit(LENT(q, 0), q->number[0]", "plain_edit(LENT(q, 0), (uint8_t)q->number[0]"),
+ (0, "fields at a refusal", "    if ((answer & 255) != 0)\n        return;\n", "    plain_parts(answer != 5 && (answer & 255) != 0 ? q->slice[0].bytes : (uint8_t[44]){ 0 }, &p);\n"),
+ (0, "no fields", "    if ((answer & 255) != 0)\n", "    if (answer != 0)\n"),
+ (0, "OEM ID the other way round", "give(a, get64(p.fields.oem_id));", "give(a, __builtin_bswap64(get64(p.fields.oem_id)));"),
+ (0, "the product's middle", "give(a, get32(p.fields.product + 8));", "give(a, get32(p.fields.product + 4));"),
+ (0, "OEM size in one byte", "give(a, p.fields.oem_size);", "give(a, p.fields.oem_size & 255);"),
+ (0, "no byte 43", "give(a, p.fields.reserved);", "give(a, 0);"),
+ (0, "local APIC address by 8,192", "give(a, p.fields.local_apic);", "give(a, p.fields.local_apic & ~4096u);"),
+ (0, "pointer and size exchanged", "give(a, p.fields.oem_pointer);\n    give(a, p.fields.oem_size);", "give(a, p.fields.oem_size);\n    give(a, p.fields.oem_pointer);"),
+ (0, "OEM pointer in 16 bits", "(uint32_t)q->number[0]", "(uint16_t)q->number[0]"),
+ (0, "OEM size in 8 bits", "(uint16_t)q->number[1]", "(uint8_t)q->number[1]"),
+ (0, "byte 43 in the local APIC's place", "= (uint32_t)q->number[2]", "= (uint32_t)q->number[3]"),
+ (0, "I/O for local routes", "plain_local_routes(LENT", "plain_io_routes(LENT"),
+ (0, "kinds I and C exchanged", "['I'] = io_routes,\n    ['C'] = local_routes", "['C'] = io_routes,\n    ['I'] = local_routes"),
+ (0, "place in 32 bits", "plain_entry(LENT(q, 0), q->number[0])", "plain_entry(LENT(q, 0), (uint32_t)q->number[0])"),
+ (0, "address in 32 bits", "(uint8_t)q->number[1], q->number[2])", "(uint8_t)q->number[1], (uint32_t)q->number[2])"),
+ (0, "names not filled up with 0", "    memset(field, 0, size);\n", "    memset(field, ' ', size);\n"),
+ (0, "OEM ID for the product", "&q->slice[3]", "&q->slice[2]"),
 ]
 
 # Equal to the original: behind the header of a buffer of 43 or 44 bytes nothing

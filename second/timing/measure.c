@@ -7,7 +7,7 @@
 
 #include "subjects.h"
 
-#include "../include/ruxtajma.h"
+#include "ruxtajma.h"
 
 #include <stdio.h>
 #include <stdlib.h>

@@ -1,7 +1,7 @@
 /* The tables and dumps that are measured.  All programs must agree on each. */
 #include "subjects.h"
 
-#include "../include/ruxtajma.h"
+#include "ruxtajma.h"
 #include "boards.h"
 #include "timed.h"
 
