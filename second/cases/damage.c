@@ -19,7 +19,7 @@ void several_faults(struct rng *r, struct test_case *c)
 
         if (f->rule == 7 || f->entries == NULL)
             n--;
-        else if (f->entries(r, &b) || rng_chance(r, 20))
+        else if (f->entries(r, &b, f) || rng_chance(r, 20))
             n--;
         if (b.base_len > PART_LIMIT || b.ext_len > PART_LIMIT)
             break;

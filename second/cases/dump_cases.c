@@ -1,6 +1,5 @@
 /* Dumps of every kind, and how often which one is generated. */
 #include "dump_cases.h"
-#include "faults.h"
 
 #include <stdio.h>
 #include <string.h>
@@ -40,40 +39,16 @@ void finish(struct draft *d, struct dump_case *out, const char *label,
 
 /* ---- single faults ---- */
 
-static const struct dump_fault *const lists[] = { contents_faults, pointer_faults };
-
-enum { LISTS = sizeof lists / sizeof lists[0] };
-
-size_t dump_fault_count(void)
-{
-    size_t n = 0;
-
-    for (size_t k = 0; k < LISTS; k++)
-        for (const struct dump_fault *f = lists[k]; f->rule != 0; f++)
-            n++;
-    return n;
-}
-
-const struct dump_fault *dump_fault_at(size_t number)
-{
-    for (size_t k = 0; k < LISTS; k++)
-        for (const struct dump_fault *f = lists[k]; f->rule != 0; f++)
-            if (number-- == 0)
-                return f;
-    return NULL;
-}
-
 /*
  * Decoys would answer in the place of a pointer that is no longer good, but a
  * revision or a feature byte at fault ends the search.
  */
-static bool bears_decoys(const struct dump_fault *f)
+static bool bears_decoys(const struct fault *f)
 {
     return f->rule == 3 || f->rule == 4;
 }
 
-void dump_fault_case(struct rng *r, const struct dump_fault *f,
-                     struct dump_case *out)
+void dump_fault_case(struct rng *r, const struct fault *f, struct dump_case *out)
 {
     for (;;) {
         bool none = rng_chance(r, 10);
@@ -93,20 +68,11 @@ void dump_fault_case(struct rng *r, const struct dump_fault *f,
 }
 
 /* Each rule is as likely as another, then each fault of that rule. */
-static const struct dump_fault *random_dump_fault(struct rng *r)
+static const struct fault *random_dump_fault(struct rng *r)
 {
     static const uint8_t rules[7] = { 1, 2, 3, 4, 5, 7, 13 };
-    uint8_t rule = rules[rng_below(r, 7)];
-    const struct dump_fault *found = NULL;
-    uint32_t n = 0;
 
-    for (size_t k = 0; k < dump_fault_count(); k++) {
-        const struct dump_fault *f = dump_fault_at(k);
-
-        if (f->rule == rule && rng_below(r, ++n) == 0)
-            found = f;
-    }
-    return found;
+    return fault_of(r, dump_faults, rules[rng_below(r, 7)]);
 }
 
 /* ---- dumps around tables of any kind, and damage ---- */

@@ -2,7 +2,7 @@
 #ifndef SECOND_DUMPS_H
 #define SECOND_DUMPS_H
 
-#include "draft.h"
+#include "faults.h"
 
 enum { HEAD_ROOM = 96 };
 
@@ -33,22 +33,8 @@ void finish(struct draft *d, struct dump_case *out, const char *label,
 /* A sound dump of an accepted table or of a default configuration. */
 void sound_dump(struct rng *r, struct draft *d);
 
-/* Single faults of 1 to 4, and of 5, 7 and 13 where regions make them. */
-struct dump_fault {
-    uint8_t rule;
-    const char *name;
-    bool (*draft)(struct rng *r, struct draft *d);
-    bool (*image)(struct rng *r, struct test_case *c);
-};
-
-/* Each list in a file of its own; rule 0 ends a list. */
-extern const struct dump_fault contents_faults[];   /* 1 */
-extern const struct dump_fault pointer_faults[];    /* 2 to 5, 7 and 13 */
-
-size_t dump_fault_count(void);
-const struct dump_fault *dump_fault_at(size_t number);
-void dump_fault_case(struct rng *r, const struct dump_fault *f,
-                     struct dump_case *out);
+/* A sound dump with a fault in it. */
+void dump_fault_case(struct rng *r, const struct fault *f, struct dump_case *out);
 
 /* A dump of any kind. */
 void gen_dump(struct rng *r, struct dump_case *out);

@@ -122,28 +122,21 @@ static bool sound_edit(struct rng *r, struct edited *t, struct edit_case *e)
 {
     state_any(r, t, e);
     change(r, &t->b, e->wanted);
-    e->label = "sound edit";
-    e->expected = 0;
     return true;
 }
 
 static bool equal_edit(struct rng *r, struct edited *t, struct edit_case *e)
 {
     state_any(r, t, e);
-    e->label = "wanted equal to standing";
-    e->expected = 0;
     return true;
 }
 
 static bool back_edit(struct rng *r, struct edited *t, struct edit_case *e)
 {
-    (void)r;
     if (t->size == 0)
         return false;
     state_entry(t, t->changed, e);
     memcpy(e->wanted, t->former, t->size);
-    e->label = "changed back";
-    e->expected = 0;
     return true;
 }
 
@@ -157,8 +150,6 @@ static bool any_edit(struct rng *r, struct edited *t, struct edit_case *e)
         e->wanted[at] = rng_chance(r, 50) ? e->wanted[at] ^ 1u << rng_below(r, 8)
                                           : rng_byte(r);
     }
-    e->label = "any bytes";
-    e->expected = -1;
     return true;
 }
 
@@ -171,8 +162,6 @@ static bool telling_edit(struct rng *r, struct edited *t, struct edit_case *e)
     case 1: unlisted(r, &t->b, e->wanted[0], true, &e->wanted[1]); break;
     default: e->wanted[3] ^= (uint8_t)rng_range(r, 1, 3);
     }
-    e->label = "another ID or other flags";
-    e->expected = -1;
     return true;
 }
 
@@ -196,8 +185,6 @@ static bool place_edit(struct rng *r, struct edited *t, struct edit_case *e)
         e->stated_length = rng_below(r, EDIT_ROOM);
     if (rng_chance(r, 20))
         rng_alter(r, &e->wanted[0]);
-    e->label = "place past the last entry";
-    e->expected = 20;
     return true;
 }
 
@@ -232,8 +219,6 @@ static bool length_edit(struct rng *r, struct edited *t, struct edit_case *e)
         e->stated_length = other;
     if (which != 0)
         e->wanted_length = other;
-    e->label = "another length";
-    e->expected = 21;
     return true;
 }
 
@@ -248,8 +233,6 @@ static bool type_edit(struct rng *r, struct edited *t, struct edit_case *e)
         rng_alter(r, &e->stated[rng_below(r, (uint32_t)e->stated_length)]);
     if (rng_chance(r, 30))
         e->stated[0] = e->wanted[0];
-    e->label = "another type";
-    e->expected = 21;
     return true;
 }
 
@@ -272,8 +255,6 @@ static bool stale_edit(struct rng *r, struct edited *t, struct edit_case *e)
     standing(t, e->place, now);
     while (memcmp(e->stated, now, last + 1) == 0)
         rng_alter(r, &e->stated[at]);
-    e->label = "stated bytes differ";
-    e->expected = 22;
     return true;
 }
 
@@ -286,23 +267,18 @@ static bool neighbour_edit(struct rng *r, struct edited *t, struct edit_case *e)
     if (memcmp(other, e->stated, e->stated_length) == 0)
         return false;
     memcpy(e->stated, other, e->stated_length);
-    e->label = "another entry stated";
-    e->expected = 22;
     return true;
 }
 
 /* The last edit once more, stating what stood before it. */
 static bool again_edit(struct rng *r, struct edited *t, struct edit_case *e)
 {
-    (void)r;
     if (t->size == 0)
         return false;
     state_entry(t, t->changed, e);
     if (memcmp(t->former, e->stated, t->size) == 0)
         return false;
     memcpy(e->stated, t->former, t->size);
-    e->label = "the same edit again";
-    e->expected = 22;
     return true;
 }
 
@@ -325,32 +301,20 @@ static bool only_change(const struct builder *old, const struct builder *new,
     return found == 1;
 }
 
-/* A single fault of a rule from 14 to 17. */
-static const struct fault *fault_of(struct rng *r, uint8_t rule)
-{
-    const struct fault *found = NULL;
-    uint32_t n = 0;
-
-    for (const struct fault *f = entry_faults; f->rule != 0; f++)
-        if (f->rule == rule && rng_below(r, ++n) == 0)
-            found = f;
-    return found;
-}
-
 /* A copy with the fault in one entry; false where the fault is another. */
 static bool break_entry(struct rng *r, const struct builder *b,
                         const struct fault *f, struct builder *broken,
                         size_t *place)
 {
     *broken = *b;
-    return f->entries(r, broken) && only_change(b, broken, place);
+    return f->entries(r, broken, f) && only_change(b, broken, place);
 }
 
 static bool break_rule(struct rng *r, struct edited *t, uint8_t rule,
                        struct edit_case *e)
 {
     static struct builder broken;
-    const struct fault *f = fault_of(r, rule);
+    const struct fault *f = fault_of(r, table_faults, rule);
     size_t place;
 
     if (!break_entry(r, &t->b, f, &broken, &place))
@@ -407,25 +371,37 @@ static bool break_edit(struct rng *r, struct edited *t, struct edit_case *e)
 
 static const struct {
     uint32_t share;   /* in 100 */
+    const char *label;
+    int expected;
     bool (*make)(struct rng *r, struct edited *t, struct edit_case *e);
 } kinds[] = {
-    { 27, sound_edit }, { 3, equal_edit }, { 6, back_edit }, { 8, any_edit },
-    { 6, telling_edit }, { 5, place_edit }, { 5, length_edit }, { 3, type_edit },
-    { 5, stale_edit }, { 2, neighbour_edit }, { 3, again_edit }, { 27, break_edit },
+    { 27, "sound edit", 0, sound_edit },
+    { 3, "wanted equal to standing", 0, equal_edit },
+    { 6, "changed back", 0, back_edit },
+    { 8, "any bytes", -1, any_edit },
+    { 6, "another ID or other flags", -1, telling_edit },
+    { 5, "place past the last entry", 20, place_edit },
+    { 5, "another length", 21, length_edit },
+    { 3, "another type", 21, type_edit },
+    { 5, "stated bytes differ", 22, stale_edit },
+    { 2, "another entry stated", 22, neighbour_edit },
+    { 3, "the same edit again", 22, again_edit },
+    { 27, "a rule broken", -1, break_edit },   /* it says which */
 };
 
 /* Where the table has no place for one, another is taken. */
 void gen_edit(struct rng *r, struct edited *t, struct edit_case *e)
 {
-    for (;;) {
-        uint32_t roll = rng_below(r, 100);
-        size_t k = 0;
+    size_t k;
 
-        while (roll >= kinds[k].share)
-            roll -= kinds[k++].share;
-        if (kinds[k].make(r, t, e))
-            return;
-    }
+    do {
+        uint32_t roll = rng_below(r, 100);
+
+        for (k = 0; roll >= kinds[k].share; k++)
+            roll -= kinds[k].share;
+        e->label = kinds[k].label;
+        e->expected = kinds[k].expected;
+    } while (!kinds[k].make(r, t, e));
 }
 
 /* ---- edits of tables that are refused as they stand ---- */
@@ -471,7 +447,7 @@ void mending_edit(struct rng *r, struct test_case *c, struct edit_case *e)
     size_t place;
 
     do {
-        f = fault_of(r, (uint8_t)rng_range(r, 14, 17));
+        f = fault_of(r, table_faults, (uint8_t)rng_range(r, 14, 17));
         sound_table(r, &sound);
     } while (!break_entry(r, &sound, f, &broken, &place));
     c->size = seal(&broken, c->bytes);

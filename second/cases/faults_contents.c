@@ -1,5 +1,5 @@
 /* Single faults of rule 1: the dump breaks a rule of its own section. */
-#include "dump_cases.h"
+#include "faults.h"
 
 #include <string.h>
 
@@ -25,7 +25,6 @@ static struct piece *random_piece(struct rng *r, struct draft *d)
 
 static bool nine_regions(struct rng *r, struct draft *d)
 {
-    (void)r;
     if (draft_size(d) + RECORD * (REGIONS + 1 - d->count) > DUMP_LIMIT)
         return false;
     while (d->count < REGIONS + 1)
@@ -160,7 +159,6 @@ static bool one_too_long(struct rng *r, struct draft *d)
 
 static bool empty_file(struct rng *r, struct test_case *c)
 {
-    (void)r;
     c->size = 0;
     return true;
 }
@@ -211,25 +209,25 @@ static bool other_length(struct rng *r, struct test_case *c)
     return true;
 }
 
-const struct dump_fault contents_faults[] = {
-    { 1, "empty file", NULL, empty_file },
-    { 1, "nine regions", nine_regions, NULL },
-    { 1, "count over 8", NULL, wild_count },
-    { 1, "contents cut", NULL, cut_contents },
-    { 1, "bodies cut", NULL, cut_bodies },
-    { 1, "bytes after the last body", NULL, bytes_behind },
-    { 1, "a length that differs from its body's", NULL, other_length },
-    { 1, "over 65,536 bytes", one_too_long, NULL },
-    { 1, "no such kind", bad_kind, NULL },
-    { 1, "base not a multiple of 16", odd_base, NULL },
-    { 1, "past 2^32", past_the_top, NULL },
-    { 1, "kind 1 over 1,024", long_ebda, NULL },
-    { 1, "kind 2 over 1,024", long_base, NULL },
-    { 1, "kind 3 below F0000h", low_rom, NULL },
-    { 1, "kind 3 past 100000h", high_rom, NULL },
-    { 1, "a kind twice", twice, NULL },
-    { 1, "a kind twice, both empty", two_empty, NULL },
-    { 1, "regions sharing an address", overlap, NULL },
-    { 1, "regions sharing an address, the later below", overlap_before, NULL },
-    { 0, NULL, NULL, NULL },
+const struct fault contents_faults[] = {
+    { 1, "empty file", .image = empty_file },
+    { 1, "nine regions", .draft = nine_regions },
+    { 1, "count over 8", .image = wild_count },
+    { 1, "contents cut", .image = cut_contents },
+    { 1, "bodies cut", .image = cut_bodies },
+    { 1, "bytes after the last body", .image = bytes_behind },
+    { 1, "a length that differs from its body's", .image = other_length },
+    { 1, "over 65,536 bytes", .draft = one_too_long },
+    { 1, "no such kind", .draft = bad_kind },
+    { 1, "base not a multiple of 16", .draft = odd_base },
+    { 1, "past 2^32", .draft = past_the_top },
+    { 1, "kind 1 over 1,024", .draft = long_ebda },
+    { 1, "kind 2 over 1,024", .draft = long_base },
+    { 1, "kind 3 below F0000h", .draft = low_rom },
+    { 1, "kind 3 past 100000h", .draft = high_rom },
+    { 1, "a kind twice", .draft = twice },
+    { 1, "a kind twice, both empty", .draft = two_empty },
+    { 1, "regions sharing an address", .draft = overlap },
+    { 1, "regions sharing an address, the later below", .draft = overlap_before },
+    { 0 },
 };

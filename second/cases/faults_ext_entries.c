@@ -1,38 +1,9 @@
 /* Single faults, rule 18: what the extended entries say. */
-#include "within.h"
 #include "faults.h"
 
 #include <string.h>
 
-static bool f18_bus(struct rng *r, struct builder *b, uint8_t type)
-{
-    uint8_t *e = pick(r, b, type, any);
-
-    return e != NULL && unlisted(r, b, 1, true, &e[2]);
-}
-
-static bool f18_bus_128(struct rng *r, struct builder *b) { return f18_bus(r, b, 128); }
-static bool f18_bus_129(struct rng *r, struct builder *b) { return f18_bus(r, b, 129); }
-static bool f18_bus_130(struct rng *r, struct builder *b) { return f18_bus(r, b, 130); }
-
-static bool f18_parent(struct rng *r, struct builder *b)
-{
-    uint8_t *e = pick(r, b, 129, any);
-
-    return e != NULL && unlisted(r, b, 1, true, &e[4]);
-}
-
-static bool f18_kind(struct rng *r, struct builder *b)
-{
-    uint8_t *e = pick(r, b, 128, any);
-
-    if (e == NULL)
-        return false;
-    e[3] = (uint8_t)(rng_chance(r, 50) ? 3 : rng_range(r, 3, 255));
-    return true;
-}
-
-static bool f18_range(struct rng *r, struct builder *b)
+static bool f18_range(struct rng *r, struct builder *b, const struct fault *f)
 {
     uint8_t *e = pick(r, b, 128, any);
     uint64_t base = rng_scaled(r), over = rng_next(r);
@@ -48,28 +19,18 @@ static bool f18_range(struct rng *r, struct builder *b)
     return true;
 }
 
-static bool f18_second_equal(struct rng *r, struct builder *b)
-{
-    uint8_t *e = pick(r, b, 129, any);
-    uint8_t copy[8];
-
-    if (e == NULL)
-        return false;
-    memcpy(copy, e, 8);
-    return put_in(b, true, place_of(r, b, 129), copy, 8);
-}
-
 /* A second link of a bus, to the parent of another link. */
-static bool f18_second_other(struct rng *r, struct builder *b)
+static bool f18_second_other(struct rng *r, struct builder *b,
+                             const struct fault *f)
 {
     uint8_t *e = pick(r, b, 129, any);
-    uint8_t *f = pick_other(r, b, 129, any, e);
+    uint8_t *other = pick_other(r, b, 129, any, e);
     uint8_t copy[8];
 
-    if (e == NULL || f == NULL || f[4] == e[2])
+    if (e == NULL || other == NULL || other[4] == e[2])
         return false;
     memcpy(copy, e, 8);
-    copy[4] = f[4];
+    copy[4] = other[4];
     return put_in(b, true, place_of(r, b, 129), copy, 8);
 }
 
@@ -87,7 +48,7 @@ static bool linked(const struct builder *b, uint8_t bus, uint8_t *parent)
     return false;
 }
 
-static bool f18_self(struct rng *r, struct builder *b)
+static bool f18_self(struct rng *r, struct builder *b, const struct fault *f)
 {
     uint8_t *e = pick(r, b, 129, any);
 
@@ -97,7 +58,7 @@ static bool f18_self(struct rng *r, struct builder *b)
     return true;
 }
 
-static bool f18_self_added(struct rng *r, struct builder *b)
+static bool f18_self_added(struct rng *r, struct builder *b, const struct fault *f)
 {
     uint8_t *bus = pick(r, b, 1, any);
     uint8_t parent;
@@ -109,7 +70,7 @@ static bool f18_self_added(struct rng *r, struct builder *b)
 }
 
 /* Link the top of a climb to a bus the climb came past. */
-static bool f18_circle(struct rng *r, struct builder *b)
+static bool f18_circle(struct rng *r, struct builder *b, const struct fault *f)
 {
     uint8_t *first = pick(r, b, 129, any);
 
@@ -129,7 +90,7 @@ static bool f18_circle(struct rng *r, struct builder *b)
 }
 
 /* All listed buses in one circle, in place of the links that stand. */
-static bool f18_ring(struct rng *r, struct builder *b)
+static bool f18_ring(struct rng *r, struct builder *b, const struct fault *f)
 {
     struct list buses;
     uint8_t *old;
@@ -151,7 +112,7 @@ static bool f18_ring(struct rng *r, struct builder *b)
     return buses.n > 0;
 }
 
-static bool f18_list(struct rng *r, struct builder *b)
+static bool f18_list(struct rng *r, struct builder *b, const struct fault *f)
 {
     uint8_t *e = pick(r, b, 130, any);
 
@@ -164,18 +125,18 @@ static bool f18_list(struct rng *r, struct builder *b)
 }
 
 const struct fault ext_entry_faults[] = {
-    { 18, "128 bus", f18_bus_128, NULL },
-    { 18, "129 bus", f18_bus_129, NULL },
-    { 18, "130 bus", f18_bus_130, NULL },
-    { 18, "129 parent", f18_parent, NULL },
-    { 18, "address kind", f18_kind, NULL },
-    { 18, "range past 2^64", f18_range, NULL },
-    { 18, "second 129, equal", f18_second_equal, NULL },
-    { 18, "second 129, another parent", f18_second_other, NULL },
-    { 18, "own parent", f18_self, NULL },
-    { 18, "own parent, link added", f18_self_added, NULL },
-    { 18, "circle", f18_circle, NULL },
-    { 18, "all buses in a circle", f18_ring, NULL },
-    { 18, "list over 1", f18_list, NULL },
-    { 0, NULL, NULL, NULL },
+    { 18, "128 bus", unlisted_bus, 128, any, 2 },
+    { 18, "129 bus", unlisted_bus, 129, any, 2 },
+    { 18, "130 bus", unlisted_bus, 130, any, 2 },
+    { 18, "129 parent", unlisted_bus, 129, any, 4 },
+    { 18, "address kind", over_limit, 128, any, 3, 50, 3 },
+    { 18, "range past 2^64", .entries = f18_range },
+    { 18, "second 129, equal", same_entry, 129, any },
+    { 18, "second 129, another parent", .entries = f18_second_other },
+    { 18, "own parent", .entries = f18_self },
+    { 18, "own parent, link added", .entries = f18_self_added },
+    { 18, "circle", .entries = f18_circle },
+    { 18, "all buses in a circle", .entries = f18_ring },
+    { 18, "list over 1", .entries = f18_list },
+    { 0 },
 };

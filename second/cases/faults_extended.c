@@ -1,10 +1,9 @@
 /* Single faults, rule 13: the extended part and the walk over its entries. */
-#include "within.h"
 #include "faults.h"
 
 #include <string.h>
 
-static bool f13_over(struct rng *r, struct builder *b)
+static bool f13_over(struct rng *r, struct builder *b, const struct fault *f)
 {
     size_t goal = rng_chance(r, 50) ? PART_LIMIT + 1
                                     : rng_range(r, PART_LIMIT + 1, PART_ROOM - 300);
@@ -29,7 +28,6 @@ static bool f13_cut_buffer(struct rng *r, struct test_case *c)
 
 static bool f13_cut_buffer_by_one(struct rng *r, struct test_case *c)
 {
-    (void)r;
     if (ext_of(c->bytes) == 0)
         return false;
     c->size = base_of(c->bytes) + ext_of(c->bytes) - 1;
@@ -76,9 +74,9 @@ static bool f13_checksum(struct rng *r, struct test_case *c)
     return true;
 }
 
-static bool f13_byte_42_alone(struct rng *r, struct builder *b)
+static bool f13_byte_42_alone(struct rng *r, struct builder *b,
+                              const struct fault *f)
 {
-    (void)r;
     b->ext_len = 0;
     return true;
 }
@@ -108,7 +106,8 @@ static bool f13_sum_of_unknown(struct rng *r, struct test_case *c)
     return true;
 }
 
-static bool f13_one_byte_over(struct rng *r, struct builder *b)
+static bool f13_one_byte_over(struct rng *r, struct builder *b,
+                              const struct fault *f)
 {
     uint8_t e = (uint8_t)rng_range(r, 128, 255);
 
@@ -117,7 +116,7 @@ static bool f13_one_byte_over(struct rng *r, struct builder *b)
     return put_in(b, true, b->ext_len, &e, 1);
 }
 
-static bool f13_cut_unknown(struct rng *r, struct builder *b)
+static bool f13_cut_unknown(struct rng *r, struct builder *b, const struct fault *f)
 {
     uint8_t e[255];
     uint8_t length = (uint8_t)rng_range(r, 3, 255);
@@ -128,7 +127,7 @@ static bool f13_cut_unknown(struct rng *r, struct builder *b)
                   rng_chance(r, 50) ? length - 1u : rng_range(r, 2, length - 1u));
 }
 
-static bool f13_cut_known(struct rng *r, struct builder *b)
+static bool f13_cut_known(struct rng *r, struct builder *b, const struct fault *f)
 {
     size_t at = 0, size;
 
@@ -146,31 +145,23 @@ static bool f13_cut_known(struct rng *r, struct builder *b)
     return true;
 }
 
-static bool f13_length_under_2(struct rng *r, struct builder *b, uint8_t length)
+static bool f13_length_under_2(struct rng *r, struct builder *b,
+                               const struct fault *f)
 {
     uint8_t e[8] = { 0 };
     size_t n = rng_chance(r, 50) ? 2 : 8;
 
     e[0] = (uint8_t)(rng_chance(r, 60) ? rng_range(r, 131, 255)
                                        : rng_range(r, 128, 130));
-    e[1] = length;
+    e[1] = f->x;
     /* After a length of 1 the rest would be a whole entry. */
     e[2] = 2;
     return put_in(b, true, rng_chance(r, 30) ? b->ext_len : place_of(r, b, e[0]),
                   e, n);
 }
 
-static bool f13_length_0(struct rng *r, struct builder *b)
-{
-    return f13_length_under_2(r, b, 0);
-}
-
-static bool f13_length_1(struct rng *r, struct builder *b)
-{
-    return f13_length_under_2(r, b, 1);
-}
-
-static bool f13_type_under_128(struct rng *r, struct builder *b)
+static bool f13_type_under_128(struct rng *r, struct builder *b,
+                               const struct fault *f)
 {
     uint8_t e[20] = { 0 };
 
@@ -180,7 +171,8 @@ static bool f13_type_under_128(struct rng *r, struct builder *b)
 }
 
 /* The lower entry is unknown too and decides nothing by its content. */
-static bool f13_below_unknown(struct rng *r, struct builder *b)
+static bool f13_below_unknown(struct rng *r, struct builder *b,
+                              const struct fault *f)
 {
     uint8_t high = (uint8_t)rng_range(r, 132, 255);
     uint8_t e[4] = { high, 2, (uint8_t)rng_range(r, 131, high - 1u), 2 };
@@ -188,7 +180,7 @@ static bool f13_below_unknown(struct rng *r, struct builder *b)
     return put_in(b, true, place_of(r, b, high), e, 4);
 }
 
-static bool f13_below_known(struct rng *r, struct builder *b)
+static bool f13_below_known(struct rng *r, struct builder *b, const struct fault *f)
 {
     uint8_t type = (uint8_t)rng_range(r, 128, 130);
     uint8_t *e = pick(r, b, type, any);
@@ -208,9 +200,10 @@ static bool f13_below_known(struct rng *r, struct builder *b)
 }
 
 /* A listed bus and fields that are sound whatever the length. */
-static bool f13_other_length(struct rng *r, struct builder *b, uint8_t type)
+static bool f13_other_length(struct rng *r, struct builder *b,
+                             const struct fault *f)
 {
-    uint8_t right = type == 128 ? 20 : 8;
+    uint8_t right = f->type == 128 ? 20 : 8;
     uint8_t wrong = (uint8_t)rng_range(r, 2, 255);
 
     switch (rng_below(r, 4)) {
@@ -223,45 +216,30 @@ static bool f13_other_length(struct rng *r, struct builder *b, uint8_t type)
 
     if (wrong == right || bus == NULL)
         return false;
-    e[0] = type, e[1] = wrong, e[2] = bus[1];
-    return put_in(b, true, place_of(r, b, type), e, wrong);
-}
-
-static bool f13_length_128(struct rng *r, struct builder *b)
-{
-    return f13_other_length(r, b, 128);
-}
-
-static bool f13_length_129(struct rng *r, struct builder *b)
-{
-    return f13_other_length(r, b, 129);
-}
-
-static bool f13_length_130(struct rng *r, struct builder *b)
-{
-    return f13_other_length(r, b, 130);
+    e[0] = f->type, e[1] = wrong, e[2] = bus[1];
+    return put_in(b, true, place_of(r, b, f->type), e, wrong);
 }
 
 const struct fault extended_faults[] = {
-    { 13, "extended over 4,096, whole entries", f13_over, NULL },
-    { 13, "extended over 4,096, stated", NULL, f13_stated_over },
-    { 13, "extended past the buffer, cut", NULL, f13_cut_buffer },
-    { 13, "extended past the buffer by one", NULL, f13_cut_buffer_by_one },
-    { 13, "extended past the buffer, stated", NULL, f13_stated_past },
-    { 13, "extended checksum", NULL, f13_checksum },
+    { 13, "extended over 4,096, whole entries", .entries = f13_over },
+    { 13, "extended over 4,096, stated", .image = f13_stated_over },
+    { 13, "extended past the buffer, cut", .image = f13_cut_buffer },
+    { 13, "extended past the buffer by one", .image = f13_cut_buffer_by_one },
+    { 13, "extended past the buffer, stated", .image = f13_stated_past },
+    { 13, "extended checksum", .image = f13_checksum },
     { 13, "byte 42 without extended part", f13_byte_42_alone,
-          f13_byte_42_alone_image },
-    { 13, "byte of an unknown entry changed", NULL, f13_sum_of_unknown },
-    { 13, "one byte left over", f13_one_byte_over, NULL },
-    { 13, "unknown entry cut", f13_cut_unknown, NULL },
-    { 13, "known entry cut", f13_cut_known, NULL },
-    { 13, "length 0", f13_length_0, NULL },
-    { 13, "length 1", f13_length_1, NULL },
-    { 13, "type under 128", f13_type_under_128, NULL },
-    { 13, "unknown types descending", f13_below_unknown, NULL },
-    { 13, "known type after unknown", f13_below_known, NULL },
-    { 13, "128 with another length", f13_length_128, NULL },
-    { 13, "129 with another length", f13_length_129, NULL },
-    { 13, "130 with another length", f13_length_130, NULL },
-    { 0, NULL, NULL, NULL },
+      .image = f13_byte_42_alone_image },
+    { 13, "byte of an unknown entry changed", .image = f13_sum_of_unknown },
+    { 13, "one byte left over", .entries = f13_one_byte_over },
+    { 13, "unknown entry cut", .entries = f13_cut_unknown },
+    { 13, "known entry cut", .entries = f13_cut_known },
+    { 13, "length 0", f13_length_under_2, .x = 0 },
+    { 13, "length 1", f13_length_under_2, .x = 1 },
+    { 13, "type under 128", .entries = f13_type_under_128 },
+    { 13, "unknown types descending", .entries = f13_below_unknown },
+    { 13, "known type after unknown", .entries = f13_below_known },
+    { 13, "128 with another length", f13_other_length, .type = 128 },
+    { 13, "129 with another length", f13_other_length, .type = 129 },
+    { 13, "130 with another length", f13_other_length, .type = 130 },
+    { 0 },
 };

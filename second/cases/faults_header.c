@@ -1,5 +1,4 @@
 /* Single faults, rules 5 to 9: the header, and the base part as a whole. */
-#include "within.h"
 #include "faults.h"
 
 #include <string.h>
@@ -14,7 +13,6 @@ static bool f5_short(struct rng *r, struct test_case *c)
 
 static bool f5_43(struct rng *r, struct test_case *c)
 {
-    (void)r;
     c->size = HEADER - 1;
     return true;
 }
@@ -53,11 +51,10 @@ static bool f7_under(struct rng *r, struct test_case *c)
 
 static bool f7_43(struct rng *r, struct test_case *c)
 {
-    (void)r;
     return state_base(c, HEADER - 1);
 }
 
-static bool f7_over_entries(struct rng *r, struct builder *b)
+static bool f7_over_entries(struct rng *r, struct builder *b, const struct fault *f)
 {
     size_t goal = rng_chance(r, 50) ? PART_LIMIT - HEADER
                                     : rng_range(r, PART_LIMIT, PART_ROOM - 8);
@@ -99,7 +96,6 @@ static bool f7_cut(struct rng *r, struct test_case *c)
 
 static bool f7_cut_by_one(struct rng *r, struct test_case *c)
 {
-    (void)r;
     c->size = base_of(c->bytes) - 1;
     return c->size >= HEADER;
 }
@@ -137,7 +133,6 @@ static bool f8_header_only(struct rng *r, struct test_case *c)
 {
     uint8_t before = c->bytes[7];
 
-    (void)r;
     c->bytes[7] = 0;
     c->bytes[7] = (uint8_t)-byte_sum(c->bytes, HEADER);
     return c->bytes[7] != before;
@@ -147,7 +142,6 @@ static bool f8_with_extended(struct rng *r, struct test_case *c)
 {
     uint8_t before = c->bytes[7];
 
-    (void)r;
     c->bytes[7] = 0;
     c->bytes[7] = (uint8_t)-byte_sum(c->bytes,
                                      base_of(c->bytes) + ext_of(c->bytes));
@@ -156,7 +150,7 @@ static bool f8_with_extended(struct rng *r, struct test_case *c)
 
 /* ---- 9: table revision not 4 ---- */
 
-static bool f9_revision(struct rng *r, struct builder *b)
+static bool f9_revision(struct rng *r, struct builder *b, const struct fault *f)
 {
     static const uint8_t near[4] = { 1, 3, 5, 0 };
 
@@ -166,22 +160,22 @@ static bool f9_revision(struct rng *r, struct builder *b)
 }
 
 const struct fault header_faults[] = {
-    { 5, "buffer under 44", NULL, f5_short },
-    { 5, "buffer of 43", NULL, f5_43 },
-    { 6, "signature byte", NULL, f6_byte },
-    { 6, "signature in lower case", NULL, f6_case },
-    { 7, "base length under 44", NULL, f7_under },
-    { 7, "base length 43", NULL, f7_43 },
-    { 7, "base over 4,096, whole entries", f7_over_entries, NULL },
-    { 7, "base over 4,096, stated", NULL, f7_over_stated },
-    { 7, "base past the buffer, cut", NULL, f7_cut },
-    { 7, "base past the buffer by one", NULL, f7_cut_by_one },
-    { 7, "base past the buffer, stated", NULL, f7_stated_past },
-    { 8, "base checksum", NULL, f8_checksum },
-    { 8, "base byte changed", NULL, f8_byte },
-    { 8, "last base byte changed", NULL, f8_last_byte },
-    { 8, "sum of the header only", NULL, f8_header_only },
-    { 8, "sum with the extended part", NULL, f8_with_extended },
-    { 9, "revision", f9_revision, NULL },
-    { 0, NULL, NULL, NULL },
+    { 5, "buffer under 44", .image = f5_short },
+    { 5, "buffer of 43", .image = f5_43 },
+    { 6, "signature byte", .image = f6_byte },
+    { 6, "signature in lower case", .image = f6_case },
+    { 7, "base length under 44", .image = f7_under },
+    { 7, "base length 43", .image = f7_43 },
+    { 7, "base over 4,096, whole entries", .entries = f7_over_entries },
+    { 7, "base over 4,096, stated", .image = f7_over_stated },
+    { 7, "base past the buffer, cut", .image = f7_cut },
+    { 7, "base past the buffer by one", .image = f7_cut_by_one },
+    { 7, "base past the buffer, stated", .image = f7_stated_past },
+    { 8, "base checksum", .image = f8_checksum },
+    { 8, "base byte changed", .image = f8_byte },
+    { 8, "last base byte changed", .image = f8_last_byte },
+    { 8, "sum of the header only", .image = f8_header_only },
+    { 8, "sum with the extended part", .image = f8_with_extended },
+    { 9, "revision", .entries = f9_revision },
+    { 0 },
 };

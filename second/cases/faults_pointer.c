@@ -2,7 +2,7 @@
  * Single faults of rules 2 to 4, and of 5, 7 and 13 where it is the region that
  * ends too early.
  */
-#include "dump_cases.h"
+#include "faults.h"
 
 #include <string.h>
 
@@ -56,7 +56,6 @@ static bool cut_pointer(struct rng *r, struct draft *d)
 /* A kind that is never searched. */
 static bool in_other_memory(struct rng *r, struct draft *d)
 {
-    (void)r;
     d->piece[d->home].kind = 4;
     return true;
 }
@@ -75,7 +74,6 @@ static bool behind_ebda(struct rng *r, struct draft *d)
 
 static bool no_regions(struct rng *r, struct draft *d)
 {
-    (void)r;
     d->count = 0;
     return true;
 }
@@ -123,7 +121,6 @@ static bool no_address(struct rng *r, struct draft *d)
 {
     uint8_t *p = pointer_of(d);
 
-    (void)r;
     p[11] = 0;
     put_le(p + 4, 0, 4);
     mend_pointer(p);
@@ -204,22 +201,22 @@ static bool part_extended(struct rng *r, struct draft *d)
     return part_between(r, d, base, base + (uint32_t)ext_of(table_of(d)));
 }
 
-const struct dump_fault pointer_faults[] = {
-    { 2, "pointer's signature", bad_signature, NULL },
-    { 2, "pointer's length", bad_length, NULL },
-    { 2, "pointer's sum", bad_sum, NULL },
-    { 2, "pointer off the paragraphs", off_paragraph, NULL },
-    { 2, "pointer cut by its region's end", cut_pointer, NULL },
-    { 2, "pointer in kind 4", in_other_memory, NULL },
-    { 2, "pointer in kind 2 beside kind 1", behind_ebda, NULL },
-    { 2, "no regions", no_regions, NULL },
-    { 3, "pointer's revision", bad_revision, NULL },
-    { 4, "feature byte over 7", high_feature, NULL },
-    { 4, "default with an address", default_with_address, NULL },
-    { 4, "neither default nor address", no_address, NULL },
-    { 5, "no region at the address", no_such_place, NULL },
-    { 5, "header over two touching regions", part_header, NULL },
-    { 7, "base over two touching regions", part_base, NULL },
-    { 13, "extended part over two touching regions", part_extended, NULL },
-    { 0, NULL, NULL, NULL },
+const struct fault pointer_faults[] = {
+    { 2, "pointer's signature", .draft = bad_signature },
+    { 2, "pointer's length", .draft = bad_length },
+    { 2, "pointer's sum", .draft = bad_sum },
+    { 2, "pointer off the paragraphs", .draft = off_paragraph },
+    { 2, "pointer cut by its region's end", .draft = cut_pointer },
+    { 2, "pointer in kind 4", .draft = in_other_memory },
+    { 2, "pointer in kind 2 beside kind 1", .draft = behind_ebda },
+    { 2, "no regions", .draft = no_regions },
+    { 3, "pointer's revision", .draft = bad_revision },
+    { 4, "feature byte over 7", .draft = high_feature },
+    { 4, "default with an address", .draft = default_with_address },
+    { 4, "neither default nor address", .draft = no_address },
+    { 5, "no region at the address", .draft = no_such_place },
+    { 5, "header over two touching regions", .draft = part_header },
+    { 7, "base over two touching regions", .draft = part_base },
+    { 13, "extended part over two touching regions", .draft = part_extended },
+    { 0 },
 };

@@ -1,5 +1,4 @@
 /* Single faults, rules 10 to 12: the walk over the base entries. */
-#include "within.h"
 #include "faults.h"
 
 #include <string.h>
@@ -11,7 +10,7 @@ static uint8_t type_over_4(struct rng *r)
     return (uint8_t)(rng_chance(r, 30) ? 5 : rng_range(r, 5, 255));
 }
 
-static bool f10_put_in(struct rng *r, struct builder *b)
+static bool f10_put_in(struct rng *r, struct builder *b, const struct fault *f)
 {
     uint8_t e[20];
 
@@ -22,7 +21,7 @@ static bool f10_put_in(struct rng *r, struct builder *b)
     return put_in(b, false, place, e, rng_chance(r, 70) ? 8 : 20);
 }
 
-static bool f10_changed(struct rng *r, struct builder *b)
+static bool f10_changed(struct rng *r, struct builder *b, const struct fault *f)
 {
     uint8_t *e = pick(r, b, (uint8_t)rng_below(r, 5), any);
 
@@ -32,7 +31,7 @@ static bool f10_changed(struct rng *r, struct builder *b)
     return true;
 }
 
-static bool f10_few_bytes(struct rng *r, struct builder *b)
+static bool f10_few_bytes(struct rng *r, struct builder *b, const struct fault *f)
 {
     uint8_t e[7];
 
@@ -43,7 +42,7 @@ static bool f10_few_bytes(struct rng *r, struct builder *b)
 }
 
 /* The first faulty entry decides: type over 4, then one below. */
-static bool f10_then_12(struct rng *r, struct builder *b)
+static bool f10_then_12(struct rng *r, struct builder *b, const struct fault *f)
 {
     uint8_t e[28] = { 0 };
 
@@ -67,7 +66,7 @@ static size_t last_entry(const struct builder *b)
     return last;
 }
 
-static bool f11_cut(struct rng *r, struct builder *b)
+static bool f11_cut(struct rng *r, struct builder *b, const struct fault *f)
 {
     size_t last = last_entry(b);
 
@@ -78,16 +77,16 @@ static bool f11_cut(struct rng *r, struct builder *b)
     return true;
 }
 
-static bool f11_cut_by_one(struct rng *r, struct builder *b)
+static bool f11_cut_by_one(struct rng *r, struct builder *b, const struct fault *f)
 {
-    (void)r;
     if (b->base_len == 0)
         return false;
     b->base_len--;
     return true;
 }
 
-static bool f11_cut_and_below(struct rng *r, struct builder *b)
+static bool f11_cut_and_below(struct rng *r, struct builder *b,
+                              const struct fault *f)
 {
     uint8_t e[19] = { 0 };
 
@@ -95,27 +94,20 @@ static bool f11_cut_and_below(struct rng *r, struct builder *b)
     return put_in(b, false, b->base_len, e, rng_range(r, 1, 19));
 }
 
-static bool f11_count_more(struct rng *r, struct builder *b)
+static bool f11_count_off(struct rng *r, struct builder *b, const struct fault *f)
 {
-    (void)r;
-    b->count++;
+    b->count += f->x;
+    b->count -= f->y;
     return true;
 }
 
-static bool f11_count_less(struct rng *r, struct builder *b)
-{
-    (void)r;
-    b->count--;
-    return true;
-}
-
-static bool f11_count_any(struct rng *r, struct builder *b)
+static bool f11_count_any(struct rng *r, struct builder *b, const struct fault *f)
 {
     b->count = (b->count & 0xFFFF) ^ rng_range(r, 1, 65535);
     return true;
 }
 
-static bool f11_count_high(struct rng *r, struct builder *b)
+static bool f11_count_high(struct rng *r, struct builder *b, const struct fault *f)
 {
     b->count += 256 * rng_range(r, 1, 255);
     return true;
@@ -124,7 +116,7 @@ static bool f11_count_high(struct rng *r, struct builder *b)
 /* ---- 12: type below the one before ---- */
 
 /* A sound entry of a lower type at the end. */
-static bool below_at_end(struct rng *r, struct builder *b)
+static bool below_at_end(struct rng *r, struct builder *b, const struct fault *f)
 {
     size_t last = last_entry(b);
     uint8_t e[20] = { 0 };
@@ -142,12 +134,7 @@ static bool below_at_end(struct rng *r, struct builder *b)
     return put_in(b, false, b->base_len, e, type == 0 ? 20 : 8);
 }
 
-static bool f12_at_end(struct rng *r, struct builder *b)
-{
-    return below_at_end(r, b);
-}
-
-static bool f12_swapped(struct rng *r, struct builder *b)
+static bool f12_swapped(struct rng *r, struct builder *b, const struct fault *f)
 {
     size_t place = 0, first = 0;
     uint32_t n = 0;
@@ -171,45 +158,45 @@ static bool f12_swapped(struct rng *r, struct builder *b)
     return true;
 }
 
-static bool f12_and_count(struct rng *r, struct builder *b)
+static bool f12_and_count(struct rng *r, struct builder *b, const struct fault *f)
 {
     b->count += rng_range(r, 1, 9);
-    return below_at_end(r, b);
+    return below_at_end(r, b, f);
 }
 
-static bool f12_then_10(struct rng *r, struct builder *b)
+static bool f12_then_10(struct rng *r, struct builder *b, const struct fault *f)
 {
     uint8_t e[8] = { 0 };
 
     e[0] = type_over_4(r);
-    return below_at_end(r, b)
+    return below_at_end(r, b, f)
         && put_in(b, false, b->base_len, e, rng_range(r, 1, 8));
 }
 
-static bool f12_then_cut(struct rng *r, struct builder *b)
+static bool f12_then_cut(struct rng *r, struct builder *b, const struct fault *f)
 {
     uint8_t e[7] = { 4 };
 
-    return below_at_end(r, b)
+    return below_at_end(r, b, f)
         && put_in(b, false, b->base_len, e, rng_range(r, 1, 7));
 }
 
 const struct fault walk_faults[] = {
-    { 10, "type over 4 put in", f10_put_in, NULL },
-    { 10, "type over 4 changed", f10_changed, NULL },
-    { 10, "type over 4, few bytes left", f10_few_bytes, NULL },
-    { 10, "type over 4, then below", f10_then_12, NULL },
-    { 11, "last entry cut", f11_cut, NULL },
-    { 11, "last entry cut by one", f11_cut_by_one, NULL },
-    { 11, "cut and below", f11_cut_and_below, NULL },
-    { 11, "count one more", f11_count_more, NULL },
-    { 11, "count one less", f11_count_less, NULL },
-    { 11, "count any", f11_count_any, NULL },
-    { 11, "count off in the high byte", f11_count_high, NULL },
-    { 12, "lower type at the end", f12_at_end, NULL },
-    { 12, "neighbours swapped", f12_swapped, NULL },
-    { 12, "below, count wrong too", f12_and_count, NULL },
-    { 12, "below, then type over 4", f12_then_10, NULL },
-    { 12, "below, then cut", f12_then_cut, NULL },
-    { 0, NULL, NULL, NULL },
+    { 10, "type over 4 put in", .entries = f10_put_in },
+    { 10, "type over 4 changed", .entries = f10_changed },
+    { 10, "type over 4, few bytes left", .entries = f10_few_bytes },
+    { 10, "type over 4, then below", .entries = f10_then_12 },
+    { 11, "last entry cut", .entries = f11_cut },
+    { 11, "last entry cut by one", .entries = f11_cut_by_one },
+    { 11, "cut and below", .entries = f11_cut_and_below },
+    { 11, "count one more", f11_count_off, .x = 1 },
+    { 11, "count one less", f11_count_off, .y = 1 },
+    { 11, "count any", .entries = f11_count_any },
+    { 11, "count off in the high byte", .entries = f11_count_high },
+    { 12, "lower type at the end", .entries = below_at_end },
+    { 12, "neighbours swapped", .entries = f12_swapped },
+    { 12, "below, count wrong too", .entries = f12_and_count },
+    { 12, "below, then type over 4", .entries = f12_then_10 },
+    { 12, "below, then cut", .entries = f12_then_cut },
+    { 0 },
 };

@@ -97,7 +97,7 @@ static void fault_parts(struct rng *r, struct parts_case *c)
     while (!reaches_writer(f));
     do
         sound_table(r, &c->b);
-    while (!f->entries(r, &c->b));
+    while (!f->entries(r, &c->b, f));
     /* A wrong count alone is no fault: the writer counts by itself. */
     bool counted = recount(&c->b) && f->rule == 11;
     finish_any(r, c, f->name, counted ? 0 : f->rule);

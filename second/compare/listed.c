@@ -145,9 +145,10 @@ void dumps(struct rng *r, number count, const char *seed)
     fixed_dumps(r);
     number fixed = t.cases;
     size_t fixed_longest = longest;
-    for (size_t k = 0; k < dump_fault_count(); k++)
+    size_t kinds = 0;
+    for (const struct fault *f; (f = fault_at(dump_faults, kinds)); kinds++)
         for (int i = 0; i < each(); i++) {
-            dump_fault_case(r, dump_fault_at(k), &d);
+            dump_fault_case(r, f, &d);
             list_dump(r, &d);
         }
     number single = t.cases - fixed;
@@ -158,8 +159,7 @@ void dumps(struct rng *r, number count, const char *seed)
         list_dump(r, &d);
     }
     printf("dumps: %llu fixed, %llu single faults (%zu kinds), %llu generated, "
-           "seed %s: no difference\n", fixed, single, dump_fault_count(), count,
-           seed);
+           "seed %s: no difference\n", fixed, single, kinds, count, seed);
     printf("  0: %llu, and %llu defaults\n", listed, defaults);
     require("listings", listed, count / 3);
     require("defaults", defaults, count / 1000);
