@@ -26,7 +26,7 @@ sort_of_cases tables, dumps, parts, edits, queries, entries;
 /* Reads one dump, and lists it into rooms of several sizes. */
 void list_dump(struct rng *r, const struct dump_case *d);
 
-/* Lists one that holds a listing into every room up to one with two bytes over. */
+/* Lists one into every room up to one with two bytes over, and the largest. */
 void list_in_every_room(const struct dump_case *d);
 
 /* The bench board's eight lines, boundaries of every rule, and others. */

@@ -136,6 +136,7 @@ void list_in_every_room(const struct dump_case *d)
     start_listing(d);
     for (size_t size = 0; size <= length + 2; size++)
         list_into(d, size, size < length ? 19 : 0);
+    list_into(d, SLICE_MAX, 0);
 }
 
 void dumps(struct rng *r, number count, const char *seed)
