@@ -1,0 +1,28 @@
+/* How often which kind of case is generated. */
+#include "table_cases.h"
+#include "faults.h"
+#include "rich.h"
+
+void gen_case(struct rng *r, struct test_case *c)
+{
+    uint32_t roll = rng_below(r, 100);
+
+    if (roll < 35)
+        sound_case(r, c);
+    else if (roll < 48)
+        rich_case(r, c);
+    else if (roll < 54)
+        chain_case(r, c);
+    else if (roll < 77)
+        fault_case(r, random_fault(r), c);
+    else if (roll < 83)
+        several_faults(r, c);
+    else if (roll < 91)
+        damaged(r, c);
+    else if (roll < 93)
+        spliced(r, c);
+    else if (roll < 96)
+        random_bytes(r, c);
+    else
+        ill_measured(r, c);
+}

@@ -1,0 +1,48 @@
+/*
+ * The sorts of cases.  Each makes fixed cases and COUNT generated ones, has them
+ * put to both programs, and reports how they ended.
+ */
+#ifndef SECOND_COMPARE_H
+#define SECOND_COMPARE_H
+
+#include "counts.h"
+#include "dump_cases.h"
+#include "query_cases.h"
+#include "random.h"
+
+/* In a thorough run the fixed cases have every value, else edges and some. */
+extern bool thorough;
+
+/* How often every single fault, whatever COUNT is. */
+static inline int each(void)
+{
+    return thorough ? 20 : 3;
+}
+
+typedef void sort_of_cases(struct rng *r, number count, const char *seed);
+
+sort_of_cases tables, dumps, parts, edits, queries, entries;
+
+/* Reads one dump, and lists it into rooms of several sizes. */
+void list_dump(struct rng *r, const struct dump_case *d);
+
+/* Lists one into every room up to one with two bytes over, and the largest. */
+void list_in_every_room(const struct dump_case *d);
+
+/* The bench board's eight lines, boundaries of every rule, and others. */
+void fixed_dumps(struct rng *r);
+
+/* A table; the questions that follow are about it. */
+struct asked *ask_table(const struct test_case *c);
+
+/* One question; routes in rooms of several sizes. */
+void ask_routes(struct rng *r, const struct route_query *q);
+void ask_address(const struct address_query *q);
+
+/* The same question in every room from 0 bytes to so many. */
+void route_in_every_room(const struct route_query *q, size_t most);
+
+/* The bench board, addresses of both lists, long climbs, and others. */
+void fixed_queries(struct rng *r);
+
+#endif
