@@ -41,11 +41,11 @@ fn test(t: &[u8], place: usize, stated: &[u8], wanted: &[u8]) -> Tested
     if number != 0 {
         return Tested::Refused(number);
     }
-    let count = numbers::le16(t, layout::ENTRY_COUNT) as usize;
+    let count = lengths::count(t) as usize;
     if count <= place {
         return Tested::Refused(20);
     }
-    let base = numbers::le16(t, layout::BASE_LENGTH) as usize;
+    let base = lengths::base(t) as usize;
     let at = layout::HEADER_SIZE + entries::offset(&t[layout::HEADER_SIZE..base], place);
     let kind = t[at];
     let size = entries::size(kind);
@@ -82,7 +82,7 @@ fn checksum(t: &[u8]) -> u8
     requires { ⌜ baseLength (now t) ≤ length (now t) ⌝ }
     ensures { λ r. ⌜ r ≡ toStore (sum256 (baseBytes (now (t .entry)))) ⌝ }
 {
-    let base = numbers::le16(t, layout::BASE_LENGTH) as usize;
+    let base = lengths::base(t) as usize;
     let sum = sums::sum(&t[..base]);
     sums::to_store(sum)
 }

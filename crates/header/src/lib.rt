@@ -18,7 +18,7 @@ pub fn refusal(t: &[u8]) -> u8
     if t.len() < layout::HEADER_SIZE {
         return 5;
     }
-    let base = numbers::le16(t, layout::BASE_LENGTH) as usize;
+    let base = lengths::base(t) as usize;
     if slices::same(&t[..4], b"PCMP") {
         return behind_signature(t, base);
     }
@@ -52,8 +52,8 @@ fn behind_signature(t: &[u8], base: usize) -> u8
 pub fn wrong_extended(t: &[u8]) -> bool
     ensures { λ r. ⌜ r ≡ wrongExtendedPart (now (t .entry)) ⌝ }
 {
-    let base = numbers::le16(t, layout::BASE_LENGTH) as usize;
-    let size = numbers::le16(t, layout::EXTENDED_LENGTH) as usize;
+    let base = lengths::base(t) as usize;
+    let size = lengths::extended(t) as usize;
     if layout::PART_MOST < size {
         return true;
     }

@@ -50,8 +50,8 @@ pub fn examine(t: &[u8]) -> Examined
     if number != 0 {
         return Examined::Refused(number);
     }
-    let base = numbers::le16(t, layout::BASE_LENGTH) as usize;
-    let count = numbers::le16(t, layout::ENTRY_COUNT) as usize;
+    let base = lengths::base(t) as usize;
+    let count = lengths::count(t) as usize;
     let walked = sections::base(&t[layout::HEADER_SIZE..base], count);
     match walked {
         BaseSections::Faulty(n) => Examined::Refused(n),
@@ -87,7 +87,7 @@ fn behind_base(t: &[u8], p: Sections) -> Examined
         return Examined::Refused(13);
     }
     let base = p.mappings;
-    let end = base + numbers::le16(t, layout::EXTENDED_LENGTH) as usize;
+    let end = base + lengths::extended(t) as usize;
     let walked = sections::extended(&t[base..end]);
     match walked {
         ExtendedSections::Faulty => Examined::Refused(13),

@@ -48,9 +48,9 @@ fn put_table(out: &mut [u8], t: &[u8], pointer: u32, imcr: u8, address: u32) -> 
     ensures { λ r. ⌜ r ≡ length (tableText pointer imcr address (now (t .entry))) ⌝ }
     ensures { λ _. ⌜ now (out .exit) ≡ sets (now (out .entry)) 0 (tableText pointer imcr address (now (t .entry))) ⌝ }
 {
-    let base = numbers::le16(t, layout::BASE_LENGTH);
-    let extended = numbers::le16(t, layout::EXTENDED_LENGTH);
-    let count = numbers::le16(t, layout::ENTRY_COUNT);
+    let base = lengths::base(t);
+    let extended = lengths::extended(t);
+    let count = lengths::count(t);
     let a = lines::frame::pointer(out, 0, pointer, imcr);
     let b = a + lines::frame::table(out, a, address, base, extended, count);
     let c = put_entries(out, b, t);
@@ -98,9 +98,9 @@ fn table_width(t: &[u8], imcr: u8) -> usize
     requires { ⌜ tableRefusal (now t) ≡ 0 ⌝ }
     ensures { λ r. ⌜ ((pointer address : ℕ) → r ≡ length (tableText pointer imcr address (now (t .entry)))) ⌝ }
 {
-    let base = numbers::le16(t, layout::BASE_LENGTH);
-    let extended = numbers::le16(t, layout::EXTENDED_LENGTH);
-    let count = numbers::le16(t, layout::ENTRY_COUNT);
+    let base = lengths::base(t);
+    let extended = lengths::extended(t);
+    let count = lengths::count(t);
     frame_width(imcr, base, extended, count) + entries_width(t)
 }
 
@@ -111,8 +111,8 @@ fn bound(t: &[u8]) -> usize
     requires { ⌜ tableRefusal (now t) ≡ 0 ⌝ }
     ensures { λ r. ⌜ ((pointer imcr address : ℕ) → length (tableText pointer imcr address (now (t .entry))) ≤ r) ⌝ }
 {
-    let base = numbers::le16(t, layout::BASE_LENGTH) as usize;
-    let extended = numbers::le16(t, layout::EXTENDED_LENGTH) as usize;
+    let base = lengths::base(t) as usize;
+    let extended = lengths::extended(t) as usize;
     6 * base + 9 * extended
 }
 

@@ -104,15 +104,15 @@ fn size(t: &[u8], place: usize) -> usize
 fn base_end(t: &[u8]) -> usize
     ensures { λ r. ⌜ r ≡ readBaseEnd (now (t .entry)) ⌝ }
 {
-    let base = numbers::le16(t, layout::BASE_LENGTH) as usize;
+    let base = lengths::base(t) as usize;
     if t.len() < base { t.len() } else { base }
 }
 
 fn extended_end(t: &[u8]) -> usize
     ensures { λ r. ⌜ r ≡ readExtendedEnd (now (t .entry)) ⌝ }
 {
-    let base = numbers::le16(t, layout::BASE_LENGTH) as usize;
-    let end = base + numbers::le16(t, layout::EXTENDED_LENGTH) as usize;
+    let base = lengths::base(t) as usize;
+    let end = base + lengths::extended(t) as usize;
     if t.len() < end { t.len() } else { end }
 }
 

@@ -119,7 +119,7 @@ fn seal(t: &mut [u8])
 fn base_sum(t: &[u8]) -> u8
     ensures { λ r. ⌜ r ≡ sum256 (baseBytes (now (t .entry))) ⌝ }
 {
-    let end = numbers::le16(t, layout::BASE_LENGTH) as usize;
+    let end = lengths::base(t) as usize;
     if t.len() < end {
         return sums::sum(t);
     }
@@ -134,10 +134,10 @@ pub fn parts(t: &[u8]) -> Parted
     if number != 0 {
         return Parted::Refused(number);
     }
-    let base = numbers::le16(t, layout::BASE_LENGTH) as usize;
+    let base = lengths::base(t) as usize;
     Parted::Parts {
         base: base,
-        end: base + numbers::le16(t, layout::EXTENDED_LENGTH) as usize,
+        end: base + lengths::extended(t) as usize,
     }
 }
 

@@ -15,7 +15,7 @@ slice-aggregate-sum c = sym (length-take-le _ (c .before .before .before .args .
 returns : tie.Need-returns
 returns c =
     let t = c .before .before .before .before .before .args .t .now in
-    c .to-store .ensures ∙ ap toStore (c .before .sum .ensures ∙ ap (λ (n : ℕ). sum256 (take n t)) (c .before .before .before .le16 .ensures))
+    c .to-store .ensures ∙ ap toStore (c .before .sum .ensures ∙ ap (λ (n : ℕ). sum256 (take n t)) (c .before .before .before .base .ensures))
 
 pub checksum-spec : {M : Type 1} → statement M
 checksum-spec = tie.close (tie.spec (λ c κs. search needs) (λ c. search needs) slice-aggregate-sum (λ c κs. search needs) (λ c κs. search needs) returns)

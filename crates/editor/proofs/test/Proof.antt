@@ -11,11 +11,11 @@ use Rattle.editor.proofs.test.Tie as tie
 
 -- The base lies in the table.
 inside :
-    (c : tie.After-le162)
-    → (44 ≤ c .le162 .result) × (c .le162 .result ≤ length (c .before .before .before .before .before .before .before .before .args .t .now))
+    (c : tie.After-base)
+    → (44 ≤ c .base .result) × (c .base .result ≤ length (c .before .before .before .before .before .before .before .before .args .t .now))
 inside c =
     let i = c .before .before .before in
-    base-inside (c .before .before .before .before .before .before .before .before .args .t .now) (i .before .refusal .ensures) (i .if1 .left) (c .le162 .ensures)
+    base-inside (c .before .before .before .before .before .before .before .before .args .t .now) (i .before .refusal .ensures) (i .if1 .left) (c .base .ensures)
 
 -- The entry that is asked for has been found.
 here :
@@ -25,8 +25,8 @@ here :
 here c =
     let a = c .before .before .before .before .before .before .before .before .before .before .args in
     let i = c .before .before .before .before .before in
-    found (a .t .now) (a .place) (i .before .refusal .ensures) (i .if1 .left) (c .before .before .before .before .le16 .ensures)
-    (c .before .before .before .if2 .left) (c .before .before .le162 .ensures) (c .offset .ensures)
+    found (a .t .now) (a .place) (i .before .refusal .ensures) (i .if1 .left) (c .before .before .before .before .count .ensures)
+    (c .before .before .before .if2 .left) (c .before .before .base .ensures) (c .offset .ensures)
 
 here-inside :
     (c : tie.After-offset)
@@ -49,7 +49,7 @@ returns-2 c =
     let a = c .before .before .before .before .before .before .before .args in
     let i = c .before .before in
     tested-20 (a .t .now) (editOf (a .place) (a .stated .now) (a .wanted .now))
-    (sym (i .before .refusal .ensures) ∙ i .if1 .left) (omega (arith, c .before .le16 .ensures, c .if2 .taken))
+    (sym (i .before .refusal .ensures) ∙ i .if1 .left) (omega (arith, c .before .count .ensures, c .if2 .taken))
 
 sub-offset : tie.Need-sub-offset
 sub-offset c = inside c .0

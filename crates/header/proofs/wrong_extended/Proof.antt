@@ -12,7 +12,7 @@ returns-2 : tie.Need-returns-2
 returns-2 c = is-outside _ (omega arith)
 
 returns-3 : tie.Need-returns-3
-returns-3 c = is-summed _ (c .before .byte .ensures) (c .before .before .sum .ensures) (c .wrapping-add-u8 .ensures) (c .before .before .before .before .before .before .before .le16 .ensures) (c .before .before .before .before .before .before .le162 .ensures) (omega arith) (omega arith)
+returns-3 c = is-summed _ (c .before .byte .ensures) (c .before .before .sum .ensures) (c .wrapping-add-u8 .ensures) (c .before .before .before .before .before .before .before .base .ensures) (c .before .before .before .before .before .before .extended .ensures) (omega arith) (omega arith)
 
 pub wrong-extended-spec : {M : Type 1} → statement M
 wrong-extended-spec =

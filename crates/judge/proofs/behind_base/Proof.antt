@@ -35,8 +35,8 @@ behind-walks-requires : tie.Need-behind-walks-requires
 behind-walks-requires c κs =
     let g = c .before .before .before .before .before .before .before .before .before .pre in
     let e = c .before .before .before .before .before .before .before .wrong-extended .ensures in
-    let s = c .before .before .before .before .before .le16 .ensures in
-    let f = c .before .before .before .extended .ensures in
+    let s = c .before .before .before .before .before .extended .ensures in
+    let f = c .before .before .before .extended2 .ensures in
     let a = c .before .walked .given .1 in
     let bytes = c .before .before .before .before .before .before .before .before .shared-slice-known .given in
     more-passed _ g e (c .before .before .before .before .before .before .if1 .left) (g .mappings) s f a (λ i. omega (arith, bytes i))
@@ -60,7 +60,7 @@ returns-2 : tie.Need-returns-2
 returns-2 c =
     let g = c .before .before .before .before .before .before .before .before .pre in
     let e = c .before .before .before .before .before .before .wrong-extended .ensures in
-    more-refused _ g e (c .before .before .before .before .before .if1 .left) (g .mappings) (c .before .before .before .before .le16 .ensures) (c .before .before .extended .ensures) (c .enum-told .given .1)
+    more-refused _ g e (c .before .before .before .before .before .if1 .left) (g .mappings) (c .before .before .before .before .extended .ensures) (c .before .before .extended2 .ensures) (c .enum-told .given .1)
 
 pub behind-base-spec : {M : Type 1} → statement M
 behind-base-spec =

@@ -30,9 +30,9 @@ part-base-end c =
 behind-base-requires : tie.Need-behind-base-requires
 behind-base-requires c κs =
     let t = c .before .before .before .before .before .before .before .before .before .before .args .t .now in
-    let b = c .before .before .before .before .before .before .le16 .ensures in
-    let k = c .before .before .before .before .before .le162 .ensures in
-    let e = c .before .before .before .base .ensures in
+    let b = c .before .before .before .before .before .before .base .ensures in
+    let k = c .before .before .before .before .before .count .ensures in
+    let e = c .before .before .before .base2 .ensures in
     walk-passed t b k (omega arith) e (c .before .walked2 .given .1)
 
 add-t18 : tie.Need-add-t18
@@ -58,9 +58,9 @@ add-t21 c =
 returns-2 : tie.Need-returns-2
 returns-2 c =
     let t = c .before .before .before .before .before .before .before .before .before .before .args .t .now in
-    let b = c .before .before .before .before .before .before .le16 .ensures in
-    let k = c .before .before .before .before .before .le162 .ensures in
-    let e = c .before .before .before .base .ensures in
+    let b = c .before .before .before .before .before .before .base .ensures in
+    let k = c .before .before .before .before .before .count .ensures in
+    let e = c .before .before .before .base2 .ensures in
     walk-refused t b k (omega arith) e (c .before .walked .given .1)
 
 pub examine-spec : {M : Type 1} → statement M

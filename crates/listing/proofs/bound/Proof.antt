@@ -8,7 +8,7 @@ use Rattle.listing.proofs.bound.Tie as tie
 returns : tie.Need-returns
 returns c pointer imcr address =
     let s = c .before .before .before in
-    omega (arith, c .le162 .ensures, c .before .le16 .ensures, table-longest (s .args .t .now) (s .pre) pointer imcr address)
+    omega (arith, c .extended .ensures, c .before .base .ensures, table-longest (s .args .t .now) (s .pre) pointer imcr address)
 
 pub bound-spec : {M : Type 1} → statement M
 bound-spec =

@@ -13,7 +13,7 @@ front : (c : tie.After-table) → (c .table .result ≤ 48) × (c .before .befor
 front c =
     let k = c .before .before .before .before .before .before in
     let a = k .before .before .before .before .before .args in
-    let head = table-most (a .address) (k .before .before .le16 .result) (k .before .le162 .result) (k .le163 .result) in (
+    let head = table-most (a .address) (k .before .before .base .result) (k .before .extended .result) (k .count .result) in (
       omega (arith, head, c .table .ensures .0),
       omega (arith, pointer-most (a .pointer) (a .imcr), c .before .before .before .before .pointer .ensures .0),
     )
@@ -50,7 +50,7 @@ returns c =
     let k = l .before .before in
     let a = k .before .before .before .before .before .args in
     table-is (a .pointer) (a .imcr) (a .address) (a .t .now)
-    (k .before .before .le16 .ensures) (k .before .le162 .ensures) (k .le163 .ensures)
+    (k .before .before .base .ensures) (k .before .extended .ensures) (k .count .ensures)
     (record { place = omega (arith, l .pointer .ensures .0); text = l .pointer .ensures .1 })
     (record { place = omega (arith, t .table .ensures .0); text = t .table .ensures .1 })
     (p .put-entries .ensures)

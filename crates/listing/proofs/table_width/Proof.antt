@@ -15,8 +15,8 @@ returns : tie.Need-returns
 returns c pointer address =
     let k = c .before .before in
     let a = k .before .before .before .before .args in
-    table-width pointer (a .imcr) address (a .t .now) (k .before .before .le16 .ensures) (k .before .le162 .ensures)
-    (k .le163 .ensures) (c .before .frame-width .ensures .0 pointer address) (c .entries-width .ensures)
+    table-width pointer (a .imcr) address (a .t .now) (k .before .before .base .ensures) (k .before .extended .ensures)
+    (k .count .ensures) (c .before .frame-width .ensures .0 pointer address) (c .entries-width .ensures)
 
 pub table-width-spec : {M : Type 1} → statement M
 table-width-spec =

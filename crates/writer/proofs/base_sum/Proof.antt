@@ -7,13 +7,13 @@ use Rattle.writer.proofs.base_sum.Tie as tie
 
 returns : tie.Need-returns
 returns c =
-    sum-whole (c .before .before .before .before .args .t .now) (c .before .before .le16 .ensures) (c .before .if1 .taken) (c .sum .ensures)
+    sum-whole (c .before .before .before .before .args .t .now) (c .before .before .base .ensures) (c .before .if1 .taken) (c .sum .ensures)
 
 slice-aggregate-sum : tie.Need-slice-aggregate-sum
-slice-aggregate-sum c = sym (length-take-le (c .before .before .le16 .result) (c .before .before .before .before .args .t .now) (c .before .if1 .left))
+slice-aggregate-sum c = sym (length-take-le (c .before .before .base .result) (c .before .before .before .before .args .t .now) (c .before .if1 .left))
 
 returns-2 : tie.Need-returns-2
-returns-2 c = sum-base (c .before .before .before .before .before .args .t .now) (c .before .before .before .le16 .ensures) (c .sum2 .ensures)
+returns-2 c = sum-base (c .before .before .before .before .before .args .t .now) (c .before .before .before .base .ensures) (c .sum2 .ensures)
 
 pub base-sum-spec : {M : Type 1} → statement M
 base-sum-spec =

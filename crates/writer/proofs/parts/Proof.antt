@@ -9,7 +9,7 @@ returns c = parted-refused (c .before .before .before .args .t .now) (c .before 
 returns-2 : tie.Need-returns-2
 returns-2 c =
     let r = c .before .before .before in
-    parted-accepted (r .before .before .args .t .now) (r .refusal .ensures) (c .before .before .if1 .left) (c .before .le16 .ensures) (c .le162 .ensures)
+    parted-accepted (r .before .before .args .t .now) (r .refusal .ensures) (c .before .before .if1 .left) (c .before .base .ensures) (c .extended .ensures)
 
 pub parts-spec : {M : Type 1} → statement M
 parts-spec =
