@@ -20,8 +20,7 @@ most = 2097152
 abbrev pub lengthOf : List ℕ → ℕ → ℕ
 lengthOf q i = le 4 q (65 + 4 * i)
 
--- The second, third and fourth slice stand one behind the other in the middle. Shut: with the sum in sight, each call that
--- hands the middle on takes four seconds to check.
+-- The second, third and fourth slice stand one behind the other in the middle.
 unfoldable pub middleOf : List ℕ → ℕ
 middleOf q = lengthOf q 1 + lengthOf q 2 + lengthOf q 3
 
