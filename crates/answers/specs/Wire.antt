@@ -21,7 +21,7 @@ abbrev pub lengthOf : List ℕ → ℕ → ℕ
 lengthOf q i = le 4 q (65 + 4 * i)
 
 -- The second, third and fourth slice stand one behind the other in the middle.
-abbrev pub middleOf : List ℕ → ℕ
+unfoldable pub middleOf : List ℕ → ℕ
 middleOf q = lengthOf q 1 + lengthOf q 2 + lengthOf q 3
 
 -- ---- Answers
