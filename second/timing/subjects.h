@@ -2,7 +2,7 @@
 #ifndef SECOND_SUBJECTS_H
 #define SECOND_SUBJECTS_H
 
-#include "write.h"
+#include "plain.h"
 
 #include <stdbool.h>
 

@@ -1,12 +1,7 @@
 /* The plain program's calls; compiled once for each level of optimisation. */
 #include "timed.h"
 
-#include "edit.h"
-#include "entry.h"
-#include "judge.h"
-#include "list.h"
-#include "query.h"
-#include "read.h"
+#include "plain.h"
 
 const struct calls plain_calls = {
     .judge = plain_judge,

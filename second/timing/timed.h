@@ -2,7 +2,7 @@
 #ifndef SECOND_TIMED_H
 #define SECOND_TIMED_H
 
-#include "write.h"
+#include "plain.h"
 
 struct calls {
     uint64_t (*judge)(const uint8_t *t, size_t n);
