@@ -2,7 +2,6 @@
  * Cases whose answer is not known beforehand: several faults at once, damage,
  * splices, random bytes, and cut or wrongly measured tables.
  */
-#include "table_cases.h"
 #include "faults.h"
 
 #include <string.h>

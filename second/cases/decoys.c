@@ -1,5 +1,5 @@
 /* Pointers that don't count, or come too late, beside the one that does. */
-#include "dump_cases.h"
+#include "draft.h"
 
 #include <string.h>
 

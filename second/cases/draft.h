@@ -2,7 +2,7 @@
 #ifndef SECOND_DRAFT_H
 #define SECOND_DRAFT_H
 
-#include "table_cases.h"
+#include "cases.h"
 
 enum {
     DUMP_LIMIT = 65536,

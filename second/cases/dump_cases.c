@@ -1,5 +1,5 @@
 /* Dumps of every kind, and how often which one is generated. */
-#include "dump_cases.h"
+#include "faults.h"
 
 #include <stdio.h>
 #include <string.h>
@@ -26,8 +26,8 @@ static void say_head(struct draft *d, char *head)
                  (unsigned)get_le(t + 34, 2));
 }
 
-void finish(struct draft *d, struct dump_case *out, const char *label,
-            int expected)
+void finish_dump(struct draft *d, struct dump_case *out, const char *label,
+                 int expected)
 {
     out->c.label = label;
     out->c.expected = expected;
@@ -60,7 +60,7 @@ void dump_fault_case(struct rng *r, const struct fault *f, struct dump_case *out
             add_decoys(r, &the_draft);
         if (f->draft != NULL && !f->draft(r, &the_draft))
             continue;
-        finish(&the_draft, out, f->name, f->rule);
+        finish_dump(&the_draft, out, f->name, f->rule);
         if (f->image != NULL && !f->image(r, &out->c))
             continue;
         return;
@@ -85,7 +85,7 @@ static void around_any_table(struct rng *r, struct dump_case *out)
     sound_draft(r, &the_draft, &the_table, true);
     if (rng_chance(r, 40))
         add_decoys(r, &the_draft);
-    finish(&the_draft, out, the_table.label, the_table.expected);
+    finish_dump(&the_draft, out, the_table.label, the_table.expected);
 }
 
 static void around_fault(struct rng *r, struct dump_case *out)
@@ -94,7 +94,7 @@ static void around_fault(struct rng *r, struct dump_case *out)
         fault_case(r, random_fault(r), &the_table);
     while (the_table.size == 0 || the_table.size > TABLE_ROOM);
     sound_draft(r, &the_draft, &the_table, true);
-    finish(&the_draft, out, the_table.label, the_table.expected);
+    finish_dump(&the_draft, out, the_table.label, the_table.expected);
 }
 
 /* Bytes changed, in the contents more often than their share. */
@@ -119,10 +119,10 @@ static void damaged_dump(struct rng *r, struct dump_case *out)
     if (rng_chance(r, 40)) {
         rng_alter(r, pointer_of(&the_draft) + rng_range(r, 4, 12));
         mend_pointer(pointer_of(&the_draft));
-        finish(&the_draft, out, "pointer damaged and mended", -1);
+        finish_dump(&the_draft, out, "pointer damaged and mended", -1);
         return;
     }
-    finish(&the_draft, out, "damaged dump", -1);
+    finish_dump(&the_draft, out, "damaged dump", -1);
     damage_dump(r, out);
 }
 
@@ -145,7 +145,7 @@ void gen_dump(struct rng *r, struct dump_case *out)
 
     if (roll < 52) {
         sound_dump(r, &the_draft);
-        finish(&the_draft, out, "sound dump", 0);
+        finish_dump(&the_draft, out, "sound dump", 0);
     } else if (roll < 64) {
         around_fault(r, out);
     } else if (roll < 76) {

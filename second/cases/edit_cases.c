@@ -2,8 +2,6 @@
  * Edits of one table, accepted and refused: sound changes, changes back, stale
  * statements, other lengths, types and places, and changes that break a rule.
  */
-#include "edit_cases.h"
-#include "within.h"
 #include "faults.h"
 
 #include <string.h>

@@ -3,7 +3,6 @@
 #define SECOND_FAULTS_H
 
 #include "draft.h"
-#include "within.h"
 
 /*
  * A fault is made either in the entries, before seal() works out lengths,

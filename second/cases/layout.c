@@ -2,7 +2,7 @@
  * Sound dumps: one to eight regions of all kinds in any order, touching, empty
  * or apart, with the pointer and the table anywhere they may be.
  */
-#include "dump_cases.h"
+#include "draft.h"
 
 #include <string.h>
 

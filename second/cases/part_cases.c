@@ -2,8 +2,6 @@
  * Parts of tables for a writer: of sound tables, of tables with one fault that
  * a writer cannot mend, of limits met and passed, and random bytes.
  */
-#include "part_cases.h"
-#include "within.h"
 #include "faults.h"
 
 #include <string.h>

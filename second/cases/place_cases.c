@@ -2,8 +2,7 @@
  * Buffers for entry readers, and places in them.  A reader judges nothing, so
  * any lengths may be stated, and any bytes stand where an entry is asked for.
  */
-#include "place_cases.h"
-#include "rich.h"
+#include "cases.h"
 
 /* A length: small, near the buffer's end, or any. */
 static uint32_t any_length(struct rng *r, size_t n)

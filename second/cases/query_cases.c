@@ -3,8 +3,7 @@
  * out as the paper words them, sentence by sentence, and not as a program would
  * that minds its time.
  */
-#include "query_cases.h"
-#include "rich.h"
+#include "cases.h"
 
 #include <string.h>
 

@@ -3,8 +3,7 @@
  * interrupts come from many sources, ranges lie apart and climbs are short; so
  * here they are changed, or one long chain of buses is built.
  */
-#include "rich.h"
-#include "within.h"
+#include "cases.h"
 
 #include <string.h>
 

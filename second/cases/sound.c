@@ -2,8 +2,7 @@
  * Sound tables: accepted ones of every size and with every freedom the paper
  * leaves, as reserved bits, disabled entries, unknown types and empty ranges.
  */
-#include "table_cases.h"
-#include "within.h"
+#include "cases.h"
 
 #include <string.h>
 

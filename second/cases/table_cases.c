@@ -1,7 +1,5 @@
 /* How often which kind of case is generated. */
-#include "table_cases.h"
 #include "faults.h"
-#include "rich.h"
 
 void gen_case(struct rng *r, struct test_case *c)
 {

@@ -3,7 +3,7 @@
 
 #include "arena.h"
 #include "driver.h"
-#include "judge.h"
+#include "plain.h"
 #include "ruxtajma.h"
 
 #include <stdio.h>

@@ -5,10 +5,8 @@
 #ifndef SECOND_COMPARE_H
 #define SECOND_COMPARE_H
 
+#include "cases.h"
 #include "counts.h"
-#include "dump_cases.h"
-#include "query_cases.h"
-#include "random.h"
 
 /* In a thorough run the fixed cases have every value, else edges and some. */
 extern bool thorough;

@@ -7,9 +7,7 @@
 
 #include "arena.h"
 #include "driver.h"
-#include "edit_cases.h"
-#include "judge.h"
-#include "write.h"
+#include "plain.h"
 
 #include <stdio.h>
 #include <string.h>

@@ -1,7 +1,7 @@
 /* Dumps that stand on the line between two answers, each with its answer. */
 #include "compare.h"
 
-#include "builder.h"
+#include "draft.h"
 
 #include <stdio.h>
 #include <string.h>

@@ -4,7 +4,7 @@
 #include "arena.h"
 #include "driver.h"
 #include "faults.h"
-#include "judge.h"
+#include "plain.h"
 
 #include <stdio.h>
 #include <string.h>

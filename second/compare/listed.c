@@ -3,8 +3,8 @@
 
 #include "arena.h"
 #include "driver.h"
-#include "dump.h"
-#include "list.h"
+#include "faults.h"
+#include "plain.h"
 #include "ruxtajma.h"
 
 #include <stdio.h>

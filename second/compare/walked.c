@@ -7,8 +7,7 @@
 
 #include "arena.h"
 #include "driver.h"
-#include "judge.h"
-#include "place_cases.h"
+#include "plain.h"
 
 #include <stdio.h>
 #include <string.h>

@@ -3,7 +3,6 @@
 
 #include "arena.h"
 #include "driver.h"
-#include "part_cases.h"
 #include "ruxtajma.h"
 
 #include <stdio.h>

@@ -2,7 +2,7 @@
 Rule, what is wrong, old text (must occur once), new text."""
 
 # The library's own face: names of any length, and a table taken apart by its length.
-NAMES_SOURCE = """#include "apart.h"
+NAMES_SOURCE = """#include "plain.h"
 #include "ruxtajma.h"
 #include <string.h>
 

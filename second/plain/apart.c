@@ -1,8 +1,5 @@
 /* Taking a table apart: judged first, so that its header can be trusted. */
-#include "apart.h"
-
-#include "answer.h"
-#include "judge.h"
+#include "plain.h"
 
 uint64_t plain_take_apart(const uint8_t *t, size_t n, struct parts *p)
 {

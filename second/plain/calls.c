@@ -1,13 +1,7 @@
 /* The kinds of docs/ANSWERS.md, each by a call of the plain program. */
 #include "calls.h"
 
-#include "apart.h"
-#include "edit.h"
-#include "entry.h"
-#include "judge.h"
-#include "list.h"
-#include "query.h"
-#include "read.h"
+#include "plain.h"
 
 #include <string.h>
 

@@ -1,6 +1,5 @@
 /* The plain dump reader.  Each rule quotes document 01. */
-#include "dump.h"
-#include "table.h"
+#include "plain.h"
 
 #include <stdbool.h>
 #include <string.h>

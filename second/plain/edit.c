@@ -1,6 +1,5 @@
 /* The plain entry editor: judge, find the entry, put in, judge again. */
-#include "edit.h"
-#include "judge.h"
+#include "plain.h"
 
 #include <string.h>
 

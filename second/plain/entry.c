@@ -1,8 +1,5 @@
 /* The plain entry reader.  It trusts nothing but the buffer's own length. */
-#include "entry.h"
-
-#include "answer.h"
-#include "table.h"
+#include "plain.h"
 
 static size_t least(size_t a, size_t b)
 {

@@ -1,5 +1,5 @@
 /* The plain table judge.  Each rule quotes its row of document 01. */
-#include "judge.h"
+#include "plain.h"
 #include "set.h"
 
 #include <string.h>

@@ -2,10 +2,7 @@
  * The plain listing: one pass to judge, one to measure, one to write.  Each
  * line has a function that says how wide it is and one that writes it.
  */
-#include "list.h"
-#include "answer.h"
-#include "dump.h"
-#include "judge.h"
+#include "plain.h"
 
 #include <string.h>
 

@@ -2,7 +2,7 @@
  * list: the dump on standard input, the listing or `refused n` on standard
  * output.  Exit 0 where one of these was written, 2 where that failed.
  */
-#include "list.h"
+#include "plain.h"
 #include "ruxtajma.h"
 
 #include <stdio.h>

@@ -3,9 +3,7 @@
  * a bus.  Both judge the table first; what they ask of it then is one pass over
  * the entries concerned, and for routes one more that writes.
  */
-#include "query.h"
-#include "answer.h"
-#include "judge.h"
+#include "plain.h"
 #include "set.h"
 
 static bool listed(const struct table *t, uint8_t bus)

@@ -1,9 +1,5 @@
 /* What a dump holds: the reader finds the table, the judge has the last word. */
-#include "read.h"
-
-#include "answer.h"
-#include "dump.h"
-#include "judge.h"
+#include "plain.h"
 
 /* 1 to 18, or 0 and *f is filled. */
 static uint8_t read_dump(const uint8_t *dump, size_t n, struct found *f)

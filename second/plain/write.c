@@ -2,9 +2,7 @@
  * The plain table writer: lays the image out, works out lengths, count and
  * checksums, and has it judged.
  */
-#include "write.h"
-#include "answer.h"
-#include "judge.h"
+#include "plain.h"
 
 #include <string.h>
 

@@ -1,9 +1,8 @@
 /* The tables and dumps that are measured.  All programs must agree on each. */
 #include "subjects.h"
 
-#include "ruxtajma.h"
 #include "boards.h"
-#include "timed.h"
+#include "ruxtajma.h"
 
 #include <stdio.h>
 #include <stdlib.h>
@@ -12,84 +11,17 @@
 struct subject subjects[SUBJECTS_MAX];
 size_t subject_count;
 
-static uint8_t room[1 << 17];
+uint8_t room[ROOM_SIZE];
+
 static struct builder b;
 
-/* ---- calls ---- */
-
-static uint64_t library_write(const struct fields *f,
-                              const uint8_t *base, size_t base_length,
-                              const uint8_t *ext, size_t ext_length,
-                              uint8_t *to, size_t size)
-{
-    return ruxtajma_write(f->oem_id, sizeof f->oem_id,
-                          f->product, sizeof f->product, f->oem_pointer,
-                          f->oem_size, f->local_apic, f->reserved,
-                          base, base_length, ext, ext_length, to, size);
-}
-
-static const struct calls library_calls = {
-    .judge = ruxtajma_judge,
-    .read = ruxtajma_read,
-    .list = ruxtajma_list,
-    .edit = ruxtajma_edit,
-    .write = library_write,
-    .io_routes = ruxtajma_io_routes,
-    .address = ruxtajma_address,
-    .entry = ruxtajma_entry,
+static timed *const programs[PROGRAMS] = {
+    [OURS] = timed_library, [PLAIN_O2] = timed_plain, [PLAIN_O3] = timed_plain_o3,
 };
-
-static const struct calls *const programs[PROGRAMS] = {
-    [OURS] = &library_calls,
-    [PLAIN_O2] = &plain_calls,
-    [PLAIN_O3] = &plain_calls_o3,
-};
-
-static uint64_t edit_by(const struct calls *c, struct subject *s)
-{
-    uint64_t answer = c->edit(s->bytes, s->size, s->place,
-                              s->entry[s->turn], s->entry_size,
-                              s->entry[!s->turn], s->entry_size);
-
-    s->turn ^= ruxtajma_refusal(answer) == 0;
-    return answer;
-}
-
-static uint64_t write_by(const struct calls *c, const struct subject *s)
-{
-    return c->write(&s->fields, s->bytes + HEADER, s->base_end - HEADER,
-                    s->bytes + s->base_end, s->size - s->base_end,
-                    room, sizeof room);
-}
-
-/* Answers where the last entry ends. */
-static uint64_t walk_by(const struct calls *c, const struct subject *s)
-{
-    size_t at = HEADER, length;
-
-    while ((length = ruxtajma_count(c->entry(s->bytes, s->size, at))) != 0)
-        at += length;
-    return (uint64_t)at << 16;
-}
 
 uint64_t call_program(int program, struct subject *s)
 {
-    const struct calls *c = programs[program];
-
-    switch (s->work) {
-    case JUDGE: return c->judge(s->bytes, s->size);
-    case READ: return c->read(s->bytes, s->size);
-    case WRITE: return write_by(c, s);
-    case WALK: return walk_by(c, s);
-    case LIST: case LIST_FITTING:
-        return c->list(s->bytes, s->size, room, s->room);
-    case ROUTES:
-        return c->io_routes(s->bytes, s->size, s->type, s->bus, s->irq, room,
-                            sizeof room);
-    case ADDRESS: case IO_ADDRESS:
-        return c->address(s->bytes, s->size, s->bus, s->kind, s->address);
-    default: return edit_by(c, s);
-    }
+    return programs[program](s);
 }
 
 /* ---- boards ---- */

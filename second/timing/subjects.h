@@ -2,12 +2,12 @@
 #ifndef SECOND_SUBJECTS_H
 #define SECOND_SUBJECTS_H
 
-#include "write.h"
+#include "plain.h"
 
 #include <stdbool.h>
 
 enum { OURS, PLAIN_O2, PLAIN_O3, PROGRAMS };
-enum { SUBJECTS_MAX = 100, SUBJECT_ROOM = 65536 };
+enum { SUBJECTS_MAX = 100, SUBJECT_ROOM = 65536, ROOM_SIZE = 1 << 17 };
 
 enum work {
     JUDGE, READ, LIST, LIST_FITTING, EDIT, EDIT_REFUSED, WRITE, ROUTES, ADDRESS,
@@ -22,7 +22,7 @@ struct subject {
     uint64_t answer;
     uint8_t bytes[SUBJECT_ROOM];
 
-    size_t room;               /* how much is lent for a listing */
+    size_t room;               /* how much of the room is lent */
 
     /* Of an edit: what stands there first, and what is put in its place. */
     size_t place, entry_size;
@@ -46,11 +46,17 @@ extern size_t subject_count;
 
 void make_subjects(void);
 
+/* Where listings, images and pairs go. */
+extern uint8_t room[ROOM_SIZE];
+
 /*
- * One call of a program on a subject; a walk is one for each entry.  Images and
- * pairs go into a large room.  Each accepted edit takes back the one before it,
- * whoever made that.
+ * One call of a program on a subject; a walk is one for each entry.  Each
+ * accepted edit takes back the one before it, whoever made that.
  */
 uint64_t call_program(int program, struct subject *s);
+
+/* The same of each program: timed.c, compiled three times. */
+typedef uint64_t timed(struct subject *s);
+timed timed_library, timed_plain, timed_plain_o3;
 
 #endif

@@ -1,20 +1,65 @@
-/* The plain program's calls; compiled once for each level of optimisation. */
-#include "timed.h"
+/*
+ * One timed call on a subject, as TIMED of one program: compiled for the library
+ * with LIBRARY, and for the plain program at each level of optimisation.
+ */
+#include "subjects.h"
 
-#include "edit.h"
-#include "entry.h"
-#include "judge.h"
-#include "list.h"
-#include "query.h"
-#include "read.h"
+#include "builder.h"
+#include "ruxtajma.h"
 
-const struct calls plain_calls = {
-    .judge = plain_judge,
-    .read = plain_read,
-    .list = plain_list,
-    .edit = plain_edit,
-    .write = plain_write,
-    .io_routes = plain_io_routes,
-    .address = plain_address,
-    .entry = plain_entry,
-};
+#ifdef LIBRARY
+#define CALL(name) ruxtajma_##name
+static uint64_t write_table(const struct fields *f, const uint8_t *base,
+                            size_t base_length, const uint8_t *ext,
+                            size_t ext_length, uint8_t *to, size_t size)
+{
+    return ruxtajma_write(f->oem_id, sizeof f->oem_id,
+                          f->product, sizeof f->product, f->oem_pointer,
+                          f->oem_size, f->local_apic, f->reserved,
+                          base, base_length, ext, ext_length, to, size);
+}
+#else
+#define CALL(name) plain_##name
+#define write_table plain_write
+#endif
+
+static uint64_t edit(struct subject *s)
+{
+    uint64_t answer = CALL(edit)(s->bytes, s->size, s->place,
+                                 s->entry[s->turn], s->entry_size,
+                                 s->entry[!s->turn], s->entry_size);
+
+    s->turn ^= ruxtajma_refusal(answer) == 0;
+    return answer;
+}
+
+/* Answers where the last entry ends. */
+static uint64_t walk(const struct subject *s)
+{
+    size_t at = HEADER, length;
+
+    while ((length = ruxtajma_count(CALL(entry)(s->bytes, s->size, at))) != 0)
+        at += length;
+    return (uint64_t)at << 16;
+}
+
+uint64_t TIMED(struct subject *s)
+{
+    switch (s->work) {
+    case JUDGE: return CALL(judge)(s->bytes, s->size);
+    case READ: return CALL(read)(s->bytes, s->size);
+    case LIST: case LIST_FITTING:
+        return CALL(list)(s->bytes, s->size, room, s->room);
+    case WRITE:
+        return write_table(&s->fields, s->bytes + HEADER, s->base_end - HEADER,
+                           s->bytes + s->base_end, s->size - s->base_end,
+                           room, s->room);
+    case ROUTES:
+        return CALL(io_routes)(s->bytes, s->size, s->type, s->bus, s->irq,
+                               room, s->room);
+    case ADDRESS: case IO_ADDRESS:
+        return CALL(address)(s->bytes, s->size, s->bus, s->kind, s->address);
+    case WALK: return walk(s);
+    default: return edit(s);
+    }
+}

@@ -1,0 +1,229 @@
+/* What the generator makes: cases, and what is to be answered where it is known. */
+#ifndef SECOND_CASES_H
+#define SECOND_CASES_H
+
+#include "within.h"
+
+struct draft;   /* draft.h */
+struct fault;   /* faults.h */
+
+/* ---- tables, for judges ---- */
+
+enum { CASE_ROOM = 65536 + 4096 };
+
+struct test_case {
+    const char *label;
+    int expected;            /* 0, 5 to 18, or -1 where not known beforehand */
+    size_t size;
+    uint8_t bytes[CASE_ROOM];
+};
+
+/* A case of any kind. */
+void gen_case(struct rng *r, struct test_case *c);
+
+/* An accepted table, from a lone processor up to 4,096 + 4,096 bytes. */
+void sound_table(struct rng *r, struct builder *b);
+void sound_case(struct rng *r, struct test_case *c);
+
+/* At times, some random bytes behind the table. */
+void slack(struct rng *r, struct test_case *c);
+
+/* Two or three faults at once: the order of the tests. */
+void several_faults(struct rng *r, struct test_case *c);
+
+/* A few bytes changed, with or without mended sums. */
+void damaged(struct rng *r, struct test_case *c);
+
+/* Runs of bytes moved, doubled or cleared inside the parts, mended. */
+void spliced(struct rng *r, struct test_case *c);
+
+/* Random bytes, bare or behind a header that gets them looked at. */
+void random_bytes(struct rng *r, struct test_case *c);
+
+/* A sound table in a buffer cut anywhere, or stating any lengths. */
+void ill_measured(struct rng *r, struct test_case *c);
+
+/* ---- tables that queries have much to say about ---- */
+
+/* Repeated sources, APICs that are off or share an ID, ranges at edges. */
+void rich_case(struct rng *r, struct test_case *c);
+
+/* A chain of parents, of up to 256 buses. */
+void chain_case(struct rng *r, struct test_case *c);
+
+/* An address where one of the paper's ranges begins or ends, or beside that. */
+uint64_t edge_address(struct rng *r);
+
+/* ---- dumps, for readers and listers ---- */
+
+enum { HEAD_ROOM = 96 };
+
+/*
+ * expected as in struct test_case, but 0, 1 to 18, or -1; where it is 0 the
+ * listing starts with head, so that which pointer decides is known beforehand.
+ */
+struct dump_case {
+    struct test_case c;
+    char head[HEAD_ROOM];
+};
+
+/*
+ * Lays a sound dump out around a table.  NULL gives a default configuration.
+ * tight: the table's region ends with the buffer of the case, as for a bare
+ * table; else bytes may follow.
+ */
+void sound_draft(struct rng *r, struct draft *d, const struct test_case *table,
+                 bool tight);
+
+/* Puts pointers that don't count, or come too late, beside the one that does. */
+void add_decoys(struct rng *r, struct draft *d);
+
+/* Writes the dump and what is known of its listing. */
+void finish_dump(struct draft *d, struct dump_case *out, const char *label,
+                 int expected);
+
+/* A sound dump of an accepted table or of a default configuration. */
+void sound_dump(struct rng *r, struct draft *d);
+
+/* A sound dump with a fault in it. */
+void dump_fault_case(struct rng *r, const struct fault *f, struct dump_case *out);
+
+/* A dump of any kind. */
+void gen_dump(struct rng *r, struct dump_case *out);
+
+/* ---- the parts of a table, for writers ---- */
+
+enum {
+    OEM_ID = 8, PRODUCT = 12,   /* bytes of the two names in a header */
+    NAME_ROOM = 32              /* they may be lent longer */
+};
+
+struct parts_case {
+    const char *label;
+    int expected;            /* in a large room: 0, 7, 10 to 18, or -1 */
+    const uint8_t *image;    /* where it is 0: all that is to be written */
+    const uint8_t *header;   /* the fields; both names as they come out */
+    const uint8_t *oem, *product;                /* as they are lent */
+    size_t oem_length, product_length;
+    const uint8_t *base, *ext;
+    size_t base_length, ext_length;
+
+    /* What these mostly point to. */
+    struct builder b;
+    uint8_t name[2][NAME_ROOM];
+    uint8_t sealed[2 * PART_LIMIT];
+};
+
+/* Parts of any kind. */
+void gen_parts(struct rng *r, struct parts_case *c);
+
+/*
+ * The builder's parts: names of a length each, from name[]; where 0 is expected
+ * the image too.  The parts point into the case.
+ */
+void finish_parts(struct parts_case *c, const char *label, int expected,
+                  size_t oem_length, size_t product_length);
+
+/*
+ * A buffer cut into parts as a header states them, sound or not; from 44 bytes.
+ * The parts point into the buffer.
+ */
+void parts_of(const uint8_t *bytes, size_t n, struct parts_case *c);
+
+/* ---- edits of a table, for editors ---- */
+
+enum {
+    ENTRY_MAX = 20,
+    EDIT_ROOM = 48   /* stated and wanted bytes may be more than an entry's */
+};
+
+struct edit_case {
+    const char *label;
+    int expected;    /* 0, 5 to 18, 20 to 22, 23 and 256 x inner, or -1 */
+    size_t place;
+    uint8_t stated[EDIT_ROOM], wanted[EDIT_ROOM];
+    size_t stated_length, wanted_length;
+};
+
+/* An accepted table in a run of edits, as far as the run has come. */
+struct edited {
+    struct builder b;
+    size_t changed;              /* the place of the last accepted edit, */
+    size_t size;                 /* the size of that entry, 0 before the first, */
+    uint8_t former[ENTRY_MAX];   /* and what stood there before it */
+};
+
+void start_edits(struct edited *t, const uint8_t *table);
+
+/* What stands at a place below the count; answers its size. */
+size_t standing(const struct edited *t, size_t place, uint8_t *entry);
+
+/* An edit that states what stands at a place and wants the same. */
+void state_entry(const struct edited *t, size_t place, struct edit_case *e);
+
+/* The next edit of the run, of any kind; where it was accepted, keep_edit(). */
+void gen_edit(struct rng *r, struct edited *t, struct edit_case *e);
+void keep_edit(struct edited *t, const struct edit_case *e);
+
+/* An edit of a table that need not be sound: its own number is the answer. */
+void blind_edit(struct rng *r, const struct test_case *c, struct edit_case *e);
+
+/* A table with one faulty entry, and the edit that would mend it. */
+void mending_edit(struct rng *r, struct test_case *c, struct edit_case *e);
+
+/* ---- questions about a table ---- */
+
+enum { PAIRS_MAX = 63252 };   /* 251 I/O APICs x 252 interrupts */
+
+/* A table to ask, as far as it can be walked. */
+struct asked {
+    int refusal;               /* 0, 5 to 18, or -1 where not known */
+    struct builder b;
+    struct list buses;
+
+    /* The extended entries of each bus, as places from 1: its last one, and */
+    uint16_t last[256];
+    uint16_t before[PART_LIMIT];   /* the one before each, 0 where none is */
+};
+
+struct route_query {
+    bool local;
+    uint8_t type, bus, irq;
+    int expected;              /* in a large room: 0, 5 to 18, 24, or -1 */
+    size_t count;              /* where it is 0: the pairs */
+    uint8_t pairs[2 * PAIRS_MAX];
+};
+
+enum seen { NO, YES, UNDECLARED };
+
+struct address_query {
+    uint8_t bus, kind;
+    uint64_t address;
+    int expected;              /* 0, 5 to 18, 24, or -1 */
+    enum seen seen;            /* where it is 0: the answer, and the climb */
+    unsigned links;
+};
+
+/* A table of any kind, mostly one that has much to say. */
+void gen_asked(struct rng *r, struct test_case *c);
+
+/* Before the questions about a table; accepted is what its judge says. */
+void start_queries(struct asked *a, const struct test_case *c, bool accepted);
+
+/* Questions mostly about what the table's own entries say. */
+void gen_route_query(struct rng *r, struct asked *a, struct route_query *q);
+void gen_address_query(struct rng *r, struct asked *a, struct address_query *q);
+
+/* Work out what is to be answered, word by word from the paper. */
+void expect_routes(struct asked *a, struct route_query *q);
+void expect_address(struct asked *a, struct address_query *q);
+
+/* ---- buffers that state any lengths, and places in them, for entry readers ---- */
+
+/* A table of any kind, sound more often than not. */
+void gen_entered(struct rng *r, struct test_case *c);
+
+/* A place: at or beside an end, beside an entry, in the header, or anywhere. */
+size_t gen_place(struct rng *r, const struct test_case *c, size_t entry);
+
+#endif

@@ -1,0 +1,163 @@
+/*
+ * The plain program's calls, by document 01 and its refusal numbers.  Each answers
+ * one number, as include/ruxtajma.h has it: a refusal's number in the low byte,
+ * values from bit 16 on.
+ */
+#ifndef PLAIN_PLAIN_H
+#define PLAIN_PLAIN_H
+
+#include "table.h"
+
+static inline uint64_t refused(uint32_t number)
+{
+    return number;
+}
+
+static inline uint64_t counted(size_t count)
+{
+    return (uint64_t)count << 16;
+}
+
+/* ---- judging a table: 5 to 18 ---- */
+
+/*
+ * Judges a bare MP configuration table at the start of a buffer of n bytes.
+ * Answers 0 (accepted) or the refusal number 5 to 18.  Bytes after the table
+ * are allowed.  Reads only t[0] to t[n - 1]; t may be NULL if n is 0.
+ */
+uint64_t plain_judge(const uint8_t *t, size_t n);
+
+/* The same; where it answers 0, it also tells where the entries stand. */
+uint8_t plain_judge_walk(const uint8_t *t, size_t n, struct table *walked);
+
+/* ---- reading a dump: 1 to 4; with the table in it judged: 1 to 18 ---- */
+
+/* What a sound dump leads to. */
+struct found {
+    uint32_t pointer;       /* the floating pointer's address */
+    uint8_t imcr;           /* 0 or 1 */
+    uint8_t standard;       /* default configuration 1 to 7; 0: a table */
+    uint32_t address;       /* the table's */
+    const uint8_t *table;   /* its bytes, up to the end of their region; */
+    size_t left;            /* 0 where no region holds the address */
+};
+
+/*
+ * Reads a dump of n bytes.  Answers 0 and fills *f, or answers the refusal
+ * number 1 to 4.  Whether a table stands at the address is the judge's matter:
+ * with left under 44 it answers 5.  dump may be NULL if n is 0.
+ */
+uint8_t plain_find(const uint8_t *dump, size_t n, struct found *f);
+
+/*
+ * Reads a dump and judges the table in it.  Answers a refusal's number 1 to 18;
+ * or from bit 16 on the default configuration's number, or 0, and from bit 24 on
+ * the IMCR bit; of an accepted table also where it begins in the dump (bit 32)
+ * and how many bytes lie from there to the end of its region (bit 48).
+ */
+uint64_t plain_read(const uint8_t *dump, size_t n);
+
+/*
+ * The floating pointer's address in the high half and the table's in the low
+ * one, of a dump that holds an accepted table; 0 for any other.
+ */
+uint64_t plain_addresses(const uint8_t *dump, size_t n);
+
+/* ---- listing a dump: 1 to 19 ---- */
+
+/*
+ * Lists a dump of n bytes into a room.  Answers how many bytes it wrote there,
+ * from bit 16 on, or the refusal number; then nothing was written.  What
+ * lies past the listing stays.  The two may not overlap; each may be NULL if
+ * its length is 0.
+ */
+uint64_t plain_list(const uint8_t *dump, size_t n, uint8_t *room, size_t size);
+
+/* ---- writing a table: 7, 13, 19 and the judge's; taking it apart: 5 to 18 ---- */
+
+/* The header fields that the writer takes; it works out the others. */
+struct fields {
+    uint8_t oem_id[8];
+    uint8_t product[12];
+    uint32_t oem_pointer;
+    uint16_t oem_size;
+    uint32_t local_apic;
+    uint8_t reserved;      /* byte 43 */
+};
+
+/*
+ * Writes a table of these fields, base entries and extended entries at the
+ * room's first byte.  Answers how many bytes it has, from bit 16 on, or the
+ * refusal number: 7, 13 or 19, then nothing was written, or what the judge says
+ * of the finished image, then its bytes are zero.  What lies past the
+ * image stays.  The room may not overlap the entries; nothing may be NULL.
+ */
+uint64_t plain_write(const struct fields *f,
+                     const uint8_t *base, size_t base_length,
+                     const uint8_t *ext, size_t ext_length,
+                     uint8_t *room, size_t size);
+
+/* What an accepted table was written from. */
+struct parts {
+    struct fields fields;
+    size_t base_end;       /* base entries stand from byte 44 to here, */
+    size_t ext_end;        /* and extended ones from there to here */
+};
+
+/* Takes an accepted table apart.  Reads its header only. */
+void plain_parts(const uint8_t *t, struct parts *p);
+
+/*
+ * Judges a table and takes an accepted one apart.  Answers a refusal's number 5
+ * to 18; or from bit 16 on where the base ends and from bit 32 on where the
+ * extended part ends, and *p has these and the header fields.
+ */
+uint64_t plain_take_apart(const uint8_t *t, size_t n, struct parts *p);
+
+/* ---- editing an entry: 5 to 18 and 20 to 23 ---- */
+
+/*
+ * Puts the wanted bytes in the place of a base entry of the table at the start
+ * of a buffer of n bytes, and sets the base checksum right.  The place is the
+ * entry's number, from 0; stated are the bytes that its author saw there.
+ * Answers 0, or the refusal number, and with 23 in the second byte the number
+ * of the edited table.  At a refusal every byte is as it was; what lies past
+ * the table always is.  Nothing may overlap or be NULL.
+ */
+uint64_t plain_edit(uint8_t *t, size_t n, size_t place,
+                    const uint8_t *stated, size_t stated_length,
+                    const uint8_t *wanted, size_t wanted_length);
+
+/* ---- asking a table: 5 to 18, 24 and 19 ---- */
+
+/*
+ * Where interrupts of a type from a bus and IRQ go, by the table at the start
+ * of a buffer of n bytes.  Writes pairs (ID, input), two bytes each, from the
+ * room's first byte: entries in table order, and for each entry the enabled
+ * I/O APICs (of the other query: enabled processors) that it names, in table
+ * order.  Answers how many pairs it wrote, from bit 16 on, or the refusal number;
+ * then nothing was written.  What lies past the pairs stays.  Table
+ * and room may not overlap; each may be NULL if its length is 0.
+ */
+uint64_t plain_io_routes(const uint8_t *t, size_t n, uint8_t type, uint8_t bus,
+                         uint8_t irq, uint8_t *room, size_t size);
+uint64_t plain_local_routes(const uint8_t *t, size_t n, uint8_t type, uint8_t bus,
+                            uint8_t irq, uint8_t *room, size_t size);
+
+/*
+ * Whether an address of a kind (0 I/O, 1 memory, 2 prefetch) is one of a bus.
+ * Answers the refusal number; or from bit 16 on 0 for no, 1 for yes, 2 for
+ * undeclared, and from bit 24 on how many links to parents were climbed.
+ */
+uint64_t plain_address(const uint8_t *t, size_t n, uint8_t bus, uint8_t kind,
+                       uint64_t address);
+
+/* ---- reading entries: document 01, "a reader that holds the lent table" ---- */
+
+/*
+ * The entry at a place, a byte offset, of any buffer of n bytes, judged or not.
+ * Answers how many bytes it has, from bit 16 on; 0 where no whole one stands.
+ */
+uint64_t plain_entry(const uint8_t *t, size_t n, size_t place);
+
+#endif
