@@ -47,7 +47,7 @@ use Rattle.spaces.proofs.wrong_mappings.Reads as wrong-mappings
 use Rattle.spaces.proofs.wrong_links.Reads as wrong-links
 use Rattle.spaces.proofs.wrong_modifiers.Reads as wrong-modifiers
 use Rattle.sections.proofs.base.Reads as base-sections
-use Rattle.sections.proofs.extended.Reads as extended-sections
+use Rattle.extension.proofs.extended.Reads as extended-sections
 use Rattle.judge.proofs.judge.Reads as judge
 use Rattle.judge.proofs.refusal.Reads as judge-refusal
 use Rattle.judge.proofs.examine.Reads as examine
