@@ -13,9 +13,10 @@ use Rattle.mps.specs.Table.{walkFrom, extendedFrom}
 use Rattle.mps.specs.Sections.{rows, span, baseAfter, extendedAfter, sections}
 use Rattle.laws.proofs.Parts.{length-part, part-part, drop-part}
 use Rattle.laws.proofs.Small.{Bytes}
-use Rattle.sections.specs.Runs.{sizeOf}
-use Rattle.sections.proofs.Laws.{span-ascends, base-rows, base-end, extended-rows, extended-end}
-use Rattle.sections.proofs.Order.{base-order, extended-order}
+use Rattle.runs.specs.Runs.{sizeOf}
+use Rattle.runs.proofs.Order.{span-ascends}
+use Rattle.sections.proofs.Laws.{base-rows, base-end, base-order}
+use Rattle.extension.proofs.Laws.{extended-rows, extended-end, extended-order}
 use Rattle.judge.specs.Placed.{Placed}
 
 -- ---- The base

@@ -25,7 +25,7 @@ use Rattle.laws.proofs.Rows.{rows-count}
 use Rattle.laws.proofs.Small.{Bytes}
 use Rattle.header.specs.Header.{headerRefusal}
 use Rattle.header.proofs.Laws.{header-passed, extended-fits}
-use Rattle.sections.specs.Runs.{baseFault}
+use Rattle.sections.specs.Base.{baseFault}
 use Rattle.judge.specs.Placed.{Placed}
 use Rattle.judge.specs.Stages.{walkNumber, from14}
 use Rattle.judge.proofs.Stages.{stages, extended-stages}

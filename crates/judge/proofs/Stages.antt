@@ -13,7 +13,7 @@ use Rattle.mps.specs.Judge.{tableRules, tableRefusal}
 use Rattle.laws.proofs.Refusals.{refusal-append}
 use Rattle.accepted.proofs.Walk.{Fault, none, type, cut, order, walk-fault}
 use Rattle.header.specs.Header.{headerRules, headerRefusal}
-use Rattle.sections.specs.Runs.{baseFault}
+use Rattle.sections.specs.Base.{baseFault}
 use Rattle.judge.specs.Stages.{walkRules, walkNumber, from14}
 
 -- ---- The walk has one fault, and each of its rows asks whether it is its own

@@ -19,9 +19,10 @@ use Rattle.header.specs.Header.{headerRefusal}
 use Rattle.header.proofs.Laws.{header-passed, extended-fits}
 use Rattle.sections.specs.declared.BaseSections.{BaseSections}
 use Rattle.sections.specs.declared.BaseSections.the-variants.{Ascending as Base·Ascending, Faulty as Base·Faulty}
-use Rattle.sections.specs.declared.ExtendedSections.{ExtendedSections}
-use Rattle.sections.specs.declared.ExtendedSections.the-variants.{Ascending as Extended·Ascending, Faulty as Extended·Faulty}
-use Rattle.sections.specs.Runs.{baseFault, baseAnswer, baseSections, extendedSections}
+use Rattle.extension.specs.declared.ExtendedSections.{ExtendedSections}
+use Rattle.extension.specs.declared.ExtendedSections.the-variants.{Ascending as Extended·Ascending, Faulty as Extended·Faulty}
+use Rattle.sections.specs.Base.{baseFault, baseAnswer, baseSections}
+use Rattle.extension.specs.Extended.{extendedSections}
 use Rattle.judge.specs.Stages.{walkNumber, from14, Walked, Ready}
 use Rattle.judge.proofs.Stages.{stages, extended-stages}
 use Rattle.judge.proofs.Accepted.{after-ascends, after-all, placed}

@@ -11,7 +11,7 @@ use Rattle.mps.specs.Sections.{baseAfter, sections}
 use Rattle.mps.specs.Judge.{tableRules, tableRefusal}
 use Rattle.mps.specs.declared.Sections.{Sections}
 use Rattle.header.specs.Header.{headerRefusal}
-use Rattle.sections.specs.Runs.{baseFault}
+use Rattle.sections.specs.Base.{baseFault}
 use Rattle.sets.specs.declared.Numbers.{Numbers}
 use Rattle.sets.specs.Sets.{putAll, noNumbers, withNumber}
 use Rattle.judge.specs.Placed.{Placed}

@@ -8,12 +8,12 @@
 // The tests are made in the order of the numbers, each over the bytes that it speaks of and no others: the header, the
 // walks, then the entries of one type after the other, with the sets of IDs that the rules before have met. No byte is
 // looked at more than a fixed number of times.
+use extension::ExtendedSections;
 use mps::Examined;
 use mps::Judged;
 use mps::Sections;
 use mps::layout;
 use sections::BaseSections;
-use sections::ExtendedSections;
 use sets::Numbers;
 ghost use mathlib.Core.Path.{_≡_};
 ghost use Rattle.mps.specs.Layout.{processorType, busType, ioApicType};
@@ -88,7 +88,7 @@ fn behind_base(t: &[u8], p: Sections) -> Examined
     }
     let base = p.mappings;
     let end = base + lengths::extended(t) as usize;
-    let walked = sections::extended(&t[base..end]);
+    let walked = extension::extended(&t[base..end]);
     match walked {
         ExtendedSections::Faulty => Examined::Refused(13),
         ExtendedSections::Ascending {

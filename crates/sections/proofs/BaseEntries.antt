@@ -18,10 +18,11 @@ use Rattle.mps.specs.Sections.{span}
 use Rattle.laws.proofs.Tests.{and-parts}
 use Rattle.laws.proofs.Cut.{cut-next, cut-done}
 use Rattle.sections.specs.declared.BaseSections.the-variants.{Ascending, Faulty}
-use Rattle.sections.specs.Runs.{baseEntriesIn, baseFault, baseSections, sizeOf, baseOwn, bytes, one, Ran}
-use Rattle.sections.proofs.Pieces.{size-some, first-there, every-cut}
-use Rattle.sections.proofs.Runs.{one-is, one-not, after, Upto, upto-next, upto-stop, Behind, behind-none, behind-next}
-use Rattle.sections.proofs.Walks.{fault, walk, walk-parts, walk-after, taken-span, every-walk, section-end}
+use Rattle.runs.specs.Runs.{sizeOf, bytes, one, Ran}
+use Rattle.sections.specs.Base.{baseEntriesIn, baseFault, baseSections, baseOwn}
+use Rattle.runs.proofs.Pieces.{size-some, first-there, every-cut}
+use Rattle.runs.proofs.Runs.{one-is, one-not, after, Upto, upto-next, upto-stop, Behind, behind-none, behind-next}
+use Rattle.runs.proofs.Walks.{fault, walk, walk-parts, walk-after, taken-span, every-walk, section-end}
 
 -- ---- The walk of mps is one of those of Walks
 

@@ -3,9 +3,9 @@ use Prim.Native.Nat.{_-_}
 use native.Mathlib.Omega.{arith}
 use lib.ListN.{length}
 use Rattle.mps.specs.Layout.{baseEntryLength}
-use Rattle.sections.specs.Runs.{baseOwn}
-use Rattle.sections.proofs.Runs.{Upto, upto-start}
-use Rattle.sections.proofs.Pieces.{size-some}
+use Rattle.sections.specs.Base.{baseOwn}
+use Rattle.runs.proofs.Runs.{Upto, upto-start}
+use Rattle.runs.proofs.Pieces.{size-some}
 use Rattle.sections.proofs.BaseEntries.{run-next, run-stop}
 use borrow.Author.Needs.{needs}
 use Rattle.sections.proofs.run.Statement.{statement}

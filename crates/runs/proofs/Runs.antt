@@ -14,8 +14,8 @@ use Rattle.mps.specs.Sums.{total}
 use Rattle.mps.specs.Layout.{Entry, type, ofType}
 use Rattle.laws.proofs.Tests.{and-parts, whether}
 use Rattle.laws.proofs.Cut.{cut-next}
-use Rattle.sections.specs.Runs.{bytes, one, lead, rest, Ran}
-use Rattle.sections.proofs.Pieces.{glued, length-glued}
+use Rattle.runs.specs.Runs.{bytes, one, lead, rest, Ran}
+use Rattle.runs.proofs.Pieces.{glued, length-glued}
 
 module _ (own : Entry → ℕ) where
   pub one-parts : (k : ℕ) (e : Entry) → one own k e ≡ true → (type e ≡ k) × (own e ≡ 0)

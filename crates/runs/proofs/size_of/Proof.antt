@@ -1,7 +1,7 @@
 -- `size_of` meets its contract, by a law for each of its two answers.
-use Rattle.sections.proofs.Pieces.{size-first, size-else}
-use Rattle.sections.proofs.size_of.Statement.{statement}
-use Rattle.sections.proofs.size_of.Tie as tie
+use Rattle.runs.proofs.Pieces.{size-first, size-else}
+use Rattle.runs.proofs.size_of.Statement.{statement}
+use Rattle.runs.proofs.size_of.Tie as tie
 
 returns : tie.Need-returns
 returns c = size-first _ (c .if1 .taken)

@@ -15,7 +15,7 @@ use Rattle.mps.specs.Layout.{Entry}
 use Rattle.mps.specs.Sections.{rows}
 use Rattle.laws.proofs.Tests.{and-parts}
 use Rattle.laws.proofs.Rows.{rows-short, rows-next}
-use Rattle.sections.specs.Runs.{sizeOf, bytes}
+use Rattle.runs.specs.Runs.{sizeOf, bytes}
 
 -- ---- sizeOf
 

@@ -13,9 +13,9 @@ use Rattle.mps.specs.Layout.{Entry, type, ofType}
 use Rattle.mps.specs.Sections.{span, rows}
 use Rattle.laws.proofs.Refusals.{first-none}
 use Rattle.laws.proofs.Tests.{and-parts, same-test}
-use Rattle.sections.specs.Runs.{bytes, one, lead, rest}
-use Rattle.sections.proofs.Pieces.{every-keep, glued, length-glued, rows-glued, glued-cut}
-use Rattle.sections.proofs.Runs.{one-parts, after, taken, keep-after, part-after, bytes-after}
+use Rattle.runs.specs.Runs.{bytes, one, lead, rest}
+use Rattle.runs.proofs.Pieces.{every-keep, glued, length-glued, rows-glued, glued-cut}
+use Rattle.runs.proofs.Runs.{one-parts, after, taken, keep-after, part-after, bytes-after}
 
 ltb-next : (a k : ℕ) → eqb a k ≡ false → ltb a k ≡ ltb a (suc k)
 ltb-next a k h =

@@ -1,25 +1,21 @@
 -- In what order the entries of an accepted part stand: those of each type one behind the other. Assumes nothing.
-use Prim.Native.Nat.{ℕ, zero, suc, _+_, _<_}
+use Prim.Native.Nat.{ℕ, zero, suc, _+_, _≤_, _<_}
 use mathlib.Core.Path.{_≡_, refl, ap, sym, _∙_}
 use mathlib.Core.Bool.{Bool, true, false, cond}
-use mathlib.Core.List.{List, [], _∷_, _++_, append-nil, nil≢cons, head-eq-of-cons-eq, tail-eq-of-cons-eq}
+use mathlib.Core.List.{List, [], _∷_, _++_, nil≢cons, head-eq-of-cons-eq, tail-eq-of-cons-eq}
 use native.Mathlib.Omega.{arith}
 use lib.ListN.{length, take, drop, length-take}
 use lib.Seq.{drop-drop}
 use Rattle.mps.specs.Words.{keep, every, each, cut}
 use Rattle.mps.specs.Sums.{total}
-use Rattle.mps.specs.Layout.{Entry, ofType, baseEntryLength, extendedEntryLength}
-use Rattle.mps.specs.Table.{walkFrom, extendedFrom}
+use Rattle.mps.specs.Layout.{Entry, ofType}
 use Rattle.mps.specs.Sections.{span}
 use Rattle.laws.proofs.Tests.{and-parts}
-use Rattle.laws.proofs.Cut.{cut-first, cut-done}
-use Rattle.sections.specs.Runs.{baseEntriesIn, extendedEntriesIn, baseOwn, extendedOwn, bytes, one, lead, rest}
-use Rattle.sections.proofs.Pieces.{every-keep}
-use Rattle.sections.proofs.Runs.{after}
-use Rattle.sections.proofs.Walks.{walk, lead-after}
-use Rattle.sections.proofs.BaseEntries as base
-use Rattle.sections.proofs.ExtendedEntries as extended
-use Rattle.sections.proofs.Laws.{base-end}
+use Rattle.laws.proofs.Cut.{cut-first}
+use Rattle.runs.specs.Runs.{bytes, one, lead, rest}
+use Rattle.runs.proofs.Pieces.{every-keep}
+use Rattle.runs.proofs.Runs.{after}
+use Rattle.runs.proofs.Walks.{walk, lead-after}
 
 -- ---- A run, and what is cut behind entries
 
@@ -62,7 +58,7 @@ module _ (len : List ℕ → ℕ) (q : Entry → Bool) (some : (e : Entry) → q
 -- ---- Any number of types
 
 -- The entries of k types, from type f on, one type behind the other, and others behind them.
-unfoldable sorted : ℕ → ℕ → List Entry → List Entry → List Entry
+unfoldable pub sorted : ℕ → ℕ → List Entry → List Entry → List Entry
 sorted f zero es others = others
 sorted f (suc k) es others = sorted f k es (keep (ofType (f + k)) es ++ others)
 
@@ -91,7 +87,7 @@ module _
         (every-keep (ofType (f + k)) q q (λ e t x. x) es h)
 
     -- The entries are those of the k types, and behind them the others as they are cut.
-    order : (k : ℕ) → es ≡ sorted f k es (cut len 0 (drop (span f k es) s))
+    pub order : (k : ℕ) → es ≡ sorted f k es (cut len 0 (drop (span f k es) s))
     unfolding sorted span
     order zero = refl
     order (suc k) =
@@ -99,29 +95,7 @@ module _
         ∙ ap (λ (l : List Entry). sorted f k es l)
         (cut-after k ∙ after-next k ∙ ap (λ (l : List Entry). keep (ofType (f + k)) es ++ l) (sym (cut-after (suc k))))
 
--- ---- For callers
-
--- The base entries are the five sections, one behind the other.
-pub base-order :
-    (s : List ℕ) → walkFrom 0 (baseEntriesIn s) ≡ 0
-    → baseEntriesIn s
-    ≡ keep (ofType 0) (baseEntriesIn s)
-    ++ (keep (ofType 1) (baseEntriesIn s)
-    ++ (keep (ofType 2) (baseEntriesIn s)
-    ++ (keep (ofType 3) (baseEntriesIn s) ++ keep (ofType 4) (baseEntriesIn s))))
-unfolding sorted
-base-order s w =
-    order baseOwn 11 baseEntryLength s 0 (base.base-accepted s w) base.exact base.exact-some (base.every-exact s w) 5
-    ∙ rw (cut-done baseEntryLength s (span 0 5 (baseEntriesIn s)) (omega (arith, base-end s w)), append-nil)
-
--- The extended entries are the three known sections, and behind them the others as they are cut.
-pub extended-order :
-    (s : List ℕ) → extendedFrom 0 (extendedEntriesIn s) ≡ false
-    → extendedEntriesIn s
-    ≡ keep (ofType 128) (extendedEntriesIn s)
-    ++ (keep (ofType 129) (extendedEntriesIn s)
-    ++ (keep (ofType 130) (extendedEntriesIn s) ++ cut extendedEntryLength 0 (drop (span 128 3 (extendedEntriesIn s)) s)))
-unfolding sorted
-extended-order s w =
-    order extendedOwn 0 extendedEntryLength s 128 (extended.extended-accepted s w) extended.exact
-    (λ e x. extended.exact-parts e x .0) (extended.every-exact s w) 3
+-- Sections follow each other.
+pub span-ascends : (f k : ℕ) (es : List Entry) → span f k es ≤ span f (suc k) es
+unfolding span
+span-ascends f k es = omega arith

@@ -14,11 +14,12 @@ use Rattle.mps.specs.Layout.{Entry, type, extendedEntryLength, ownLength}
 use Rattle.mps.specs.Table.{extendedFault, extendedFrom}
 use Rattle.laws.proofs.Tests.{and-parts, or-parts, either, whether}
 use Rattle.laws.proofs.Cut.{cut-next, cut-done}
-use Rattle.sections.specs.declared.ExtendedSections.the-variants.{Ascending, Faulty}
-use Rattle.sections.specs.Runs.{extendedEntriesIn, extendedSections, sizeOf, extendedOwn, Ran}
-use Rattle.sections.proofs.Pieces.{size-two, first-there, every-cut, cut-head}
-use Rattle.sections.proofs.Runs.{one-is, one-not, Upto, upto-next, upto-stop, Behind, behind-none, behind-next}
-use Rattle.sections.proofs.Walks.{fault, walk, walk-start, walk-after, taken-span, every-walk}
+use Rattle.extension.specs.declared.ExtendedSections.the-variants.{Ascending, Faulty}
+use Rattle.runs.specs.Runs.{sizeOf, Ran}
+use Rattle.extension.specs.Extended.{extendedEntriesIn, extendedSections, extendedOwn}
+use Rattle.runs.proofs.Pieces.{size-two, first-there, every-cut, cut-head}
+use Rattle.runs.proofs.Runs.{one-is, one-not, Upto, upto-next, upto-stop, Behind, behind-none, behind-next}
+use Rattle.runs.proofs.Walks.{fault, walk, walk-start, walk-after, taken-span, every-walk}
 
 -- ---- The walk of mps is one of those of Walks
 

@@ -4,11 +4,11 @@ use mathlib.Core.Path.{_≡_, refl, sym, _∙_}
 use native.Mathlib.Omega.{arith}
 use lib.ListN.{length, drop}
 use Rattle.mps.specs.Table.{extendedFrom}
-use Rattle.sections.specs.Runs.{extendedEntriesIn}
-use Rattle.sections.proofs.ExtendedEntries.{others-next, others-stop, others-end}
+use Rattle.extension.specs.Extended.{extendedEntriesIn}
+use Rattle.extension.proofs.ExtendedEntries.{others-next, others-stop, others-end}
 use borrow.Author.Needs.{needs}
-use Rattle.sections.proofs.others.Statement.{statement}
-use Rattle.sections.proofs.others.Tie as tie
+use Rattle.extension.proofs.others.Statement.{statement}
+use Rattle.extension.proofs.others.Tie as tie
 
 abbrev Inv-loop : tie.InvT-loop
 Inv-loop s at place₀ before₀ place before =

@@ -3,13 +3,13 @@ use Prim.Native.Nat.{_-_}
 use native.Mathlib.Omega.{arith}
 use lib.ListN.{length}
 use Rattle.mps.specs.Layout.{extendedEntryLength}
-use Rattle.sections.specs.Runs.{extendedOwn}
-use Rattle.sections.proofs.Pieces.{size-two}
-use Rattle.sections.proofs.Runs.{Upto, upto-start}
-use Rattle.sections.proofs.ExtendedEntries.{run-next, run-stop}
+use Rattle.extension.specs.Extended.{extendedOwn}
+use Rattle.runs.proofs.Pieces.{size-two}
+use Rattle.runs.proofs.Runs.{Upto, upto-start}
+use Rattle.extension.proofs.ExtendedEntries.{run-next, run-stop}
 use borrow.Author.Needs.{needs}
-use Rattle.sections.proofs.run_of.Statement.{statement}
-use Rattle.sections.proofs.run_of.Tie as tie
+use Rattle.extension.proofs.run_of.Statement.{statement}
+use Rattle.extension.proofs.run_of.Tie as tie
 
 abbrev Inv-loop : tie.InvT-loop
 Inv-loop s at kind size place₀ place = Upto extendedOwn extendedEntryLength s kind at place

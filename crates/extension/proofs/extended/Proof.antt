@@ -1,8 +1,8 @@
 -- `extended` meets its contract, by a law for each of its two answers, from what the three runs and `others` ensure.
-use Rattle.sections.proofs.ExtendedEntries.{extended-faulty, extended-sound}
+use Rattle.extension.proofs.ExtendedEntries.{extended-faulty, extended-sound}
 use borrow.Author.Needs.{needs}
-use Rattle.sections.proofs.extended.Statement.{statement}
-use Rattle.sections.proofs.extended.Tie as tie
+use Rattle.extension.proofs.extended.Statement.{statement}
+use Rattle.extension.proofs.extended.Tie as tie
 
 returns : tie.Need-returns
 returns c =

@@ -1,0 +1,2 @@
+pub mod ExtendedEntries
+pub mod Laws
