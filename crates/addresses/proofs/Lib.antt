@@ -1,4 +1,5 @@
 pub mod Links
+pub mod Refuses
 pub mod Ranks
 pub mod Marks
 pub mod Climbs
