@@ -1,5 +1,5 @@
 pub mod Links
+pub mod Refuses
 pub mod Parents
 pub mod Climbs
 pub mod Laws
-pub mod Refuses

@@ -1,207 +1,240 @@
 -- Nothing is lost on the way to C: of every answer that a call can give, what C takes out of its code are the numbers that
 -- mps's specs/Answers.antt has for it: the refusal's, the inner one, each value. Assumes nothing.
-use Prim.Native.Nat.{ℕ, zero, suc, _+_, _*_, _-_, _/_, _%_, _^_, _<_}
-use mathlib.Core.Path.{_≡_, refl, ap, _∙_}
+use Prim.Native.Nat.{ℕ, zero, suc, _+_, _-_, _/_, _^_, _<_, _≤_}
+use mathlib.Core.Path.{_≡_, refl, sym, _∙_}
+use mathlib.Core.Bool.{false}
 use mathlib.Core.List.{List, [], _∷_}
 use native.Mathlib.Omega.{arith}
-use borrow.Author.Tests.{ne-eqb}
-use Rattle.mps.specs.Refusals.{innerNumber}
-use Rattle.mps.specs.Answers.{judgedNumbers, judgedOf, heldNumbers, writtenNumbers, partedNumbers, routedNumbers, seenNumbers, editedNumbers, foundNumbers}
-use Rattle.mps.specs.Rules.{Side}
-use Rattle.mps.specs.Judge.{tableRefusal, judged, held}
-use Rattle.mps.specs.Listing.{listed}
-use Rattle.mps.specs.Writing.{Parts, written, parted}
-use Rattle.mps.specs.Edits.{Edit, edited}
-use Rattle.mps.specs.Reader.{found}
-use Rattle.mps.specs.Routes.{routed}
-use Rattle.mps.specs.Addresses.{seen}
+use lib.ListN.{length}
+use lib.Dec.{eqb, leb}
+use Rattle.packs.specs.Packs.{packed, padded, Fit}
+use Rattle.packs.proofs.Laws.{taken-packed}
+use Rattle.mps.specs.Words.{any, part, first}
+use Rattle.mps.specs.Refusals.{Rule, refusal, innerNumber}
+use Rattle.mps.specs.Rooms.{lentRefusal}
+use Rattle.mps.specs.Layout.{baseLength, extendedEnd}
+use Rattle.mps.specs.Answers.{judgedNumbers, judgedOf, heldNumbers, lentNumbers, lentOf, partedNumbers, partedOf}
+use Rattle.mps.specs.Answers.{seenNumbers, seenOf, linksOf, editedNumbers, editedOf, foundNumbers, foundOf}
+use Rattle.mps.specs.Pointer.{isDefault}
+use Rattle.mps.specs.Judge.{tableRules, tableRefusal, pointerRules, dumpRules, dumpRefusal, judged, held}
+use Rattle.mps.specs.Listing.{listing, listRefusal, listed}
+use Rattle.mps.specs.Writing.{Parts, image, imageSize, partRules, earlyRefusal, writeRefusal, written, parted}
+use Rattle.mps.specs.Edits.{Edit, editedTable, innerRefusal, editRules, editRefusal, edited}
+use Rattle.mps.specs.Reader.{sizeAt, found}
+use Rattle.mps.specs.Routes.{Question, pairSize, routesOf, lineRules, routeRefusal, routed}
+use Rattle.mps.specs.Addresses.{seenBy, addressRules, seen}
 use Rattle.mps.specs.declared.Held.{Held}
 use Rattle.mps.specs.declared.Held.the-variants.{Default, Table, Refused as Held·Refused}
-use Rattle.mps.specs.declared.Written.{Written}
-use Rattle.mps.specs.declared.Written.the-variants.{Bytes as Written·Bytes, Refused as Written·Refused}
-use Rattle.mps.specs.declared.Parted.{Parted}
-use Rattle.mps.specs.declared.Parted.the-variants.{Parts as Parted·Parts, Refused as Parted·Refused}
-use Rattle.mps.specs.declared.Routed.{Routed}
-use Rattle.mps.specs.declared.Routed.the-variants.{Pairs, Refused as Routed·Refused}
+use Rattle.mps.specs.declared.Parted.the-variants.{Parts as Parted·Parts}
 use Rattle.mps.specs.declared.Seen.{Seen}
 use Rattle.mps.specs.declared.Seen.the-variants.{No, Yes, Undeclared, Refused as Seen·Refused}
-use Rattle.mps.specs.declared.Edited.{Edited}
-use Rattle.mps.specs.declared.Edited.the-variants.{Done, Refused as Edited·Refused, Inner}
-use Rattle.mps.specs.declared.Found.{Found}
-use Rattle.mps.specs.declared.Found.the-variants.{Whole, Nothing}
+use Rattle.laws.proofs.Tests.{whether}
+use Rattle.laws.proofs.Refusals.{number, refusal-below}
+use Rattle.laws.proofs.Parts.{length-part}
 use Rattle.laws.proofs.Small.{Bytes}
-use Rattle.exports.specs.Codes.{coded, writtenCode, routedCode, seenCode, editedCode, heldCode, addressesCode, partedCode, foundCode}
-use Rattle.exports.specs.Codes.{refusalIn, innerIn, valuesIn, defaultIn, imcrIn, startIn, lengthIn, answered}
-use Rattle.exports.specs.Codes.{countTaken, seenTaken, editedTaken, heldTaken, partedTaken}
-use Rattle.exports.proofs.Fits.{Number, WrittenFits, RoutedFits, SeenFits, EditedFits, HeldFits, PartedFits, FoundFits}
-use Rattle.exports.proofs.Fits.{table-below, list-fits, write-fits, routes-fit, address-fits, edit-fits, held-fits, parts-fit, entry-fits}
+use Rattle.accepted.proofs.Sound.{sound}
+use Rattle.dump.proofs.Laws.{held-number, held-table}
+use Rattle.dump.proofs.Narrow.{default-narrow, table-narrow}
+use Rattle.listing.proofs.Longest.{list-most}
+use Rattle.writer.proofs.Most.{written-most}
+use Rattle.routes.proofs.Most.{routes-most}
+use Rattle.addresses.proofs.Links.{links-most}
+use Rattle.addresses.proofs.Refuses.{ofSeen, seen-by-raised}
+use Rattle.reader.proofs.Laws.{size-most}
+use Rattle.exports.specs.Codes.{countRow, partedRow, seenRow, heldRow, addressesRow, editedRow, coded}
+use Rattle.exports.specs.Codes.{judgedCode, lentCode, foundCode, partedCode, seenCode, editedCode, heldCode, addressesCode}
+use Rattle.exports.specs.Codes.{refusalIn, valuesIn, answered, numbersIn, editedFrom, editedIn, heldFrom, heldIn}
 
--- ---- The parts of a code
+-- ---- Of any code
 
-module _ (number inner values : ℕ) (n : number < 256) (i : inner < 256) where
-  pub refusal-in : refusalIn (coded number inner values) ≡ number
+module _ (row values : List ℕ) (n : ℕ) (h : n < 2 ^ 8) where
+  refusal-in : refusalIn (coded row (n ∷ values)) ≡ n
+  unfolding packed
   refusal-in = omega arith
 
-  pub inner-in : innerIn (coded number inner values) ≡ inner
-  inner-in = omega arith
-
-  pub values-in : valuesIn (coded number inner values) ≡ values
+  values-in : valuesIn (coded row (n ∷ values)) ≡ packed row values
+  unfolding packed
   values-in = omega arith
 
--- A refusal has its number alone.
-refused-taken : (n : ℕ) (values : List ℕ) → Number n → answered (refusalIn (coded n 0 0)) values ≡ n ∷ []
-refused-taken zero values h = absurd (omega (arith, h .0))
-refused-taken (suc n) values h = rw (refusal-in (suc n) 0 0 (omega (arith, h .1)) (omega arith))
+  told : Fit row values → numbersIn row (coded row (n ∷ values)) ≡ answered n (padded row values)
+  unfolding numbersIn
+  told f = rw (refusal-in, values-in, taken-packed row values f)
 
--- An answer that is no refusal has its values.
-answer-taken : (v : ℕ) (values : ℕ → List ℕ) → answered (refusalIn (coded 0 0 v)) (values (valuesIn (coded 0 0 v))) ≡ 0 ∷ values v
-answer-taken v values = rw (refusal-in 0 0 v (omega arith) (omega arith), values-in 0 0 v (omega arith) (omega arith))
+-- A refusal has its number alone, whatever the row.
+refused : (row : List ℕ) (n : ℕ) → suc n < 2 ^ 8 → numbersIn row (coded row (suc n ∷ [])) ≡ suc n ∷ []
+refused row n h = told row [] (suc n) h (omega arith)
 
--- ---- Each answer
+answer : (row values : List ℕ) → Fit row values → numbersIn row (coded row (0 ∷ values)) ≡ 0 ∷ padded row values
+answer row values f = told row values 0 (omega arith) f
 
-abbrev oneValue : ℕ → List ℕ
-oneValue v = v ∷ []
+-- The number that rows give has one byte if theirs have, which is computed.
+byte-below : (rows : List Rule) → any (λ (r : Rule). leb (2 ^ 8) (number r)) rows ≡ false → refusal rows < 2 ^ 8
+byte-below rows e = refusal-below (2 ^ 8) rows (omega arith) e
 
-written-taken : (r : Written) → WrittenFits r → countTaken (writtenCode r) ≡ writtenNumbers r
-unfolding countTaken writtenCode
-written-taken (Written·Bytes n) f = answer-taken n oneValue
-written-taken (Written·Refused n) f = refused-taken n _ f
+-- ---- The judge
 
-routed-taken : (r : Routed) → RoutedFits r → countTaken (routedCode r) ≡ routedNumbers r
-unfolding countTaken routedCode
-routed-taken (Pairs n) f = answer-taken n oneValue
-routed-taken (Routed·Refused n) f = refused-taken n _ f
+pub table-below : (t : List ℕ) → tableRefusal t < 2 ^ 8
+unfolding tableRefusal tableRules any
+table-below t = byte-below (tableRules t) refl
 
-found-taken : (r : Found) → FoundFits r → countTaken (foundCode r) ≡ foundNumbers r
-unfolding countTaken foundCode
-found-taken (Whole n) f = answer-taken n oneValue
-found-taken Nothing f = answer-taken 0 oneValue
+judged-told : (n : ℕ) → n < 2 ^ 8 → numbersIn [] (judgedCode (judgedOf n)) ≡ judgedNumbers (judgedOf n)
+unfolding judgedCode
+judged-told zero h = answer [] [] (omega arith)
+judged-told (suc n) h = refused [] n h
 
--- A value in the low byte, and one above it.
-abbrev lowAndHigh : ℕ → ℕ → List ℕ
-lowAndHigh width v = v % width ∷ v / width ∷ []
-
-two : (low high : ℕ) → low < 256 → 0 ∷ lowAndHigh 256 (low + 256 * high) ≡ 0 ∷ low ∷ high ∷ []
-two low high h =
-    let a : (low + 256 * high) % 256 ≡ low = omega arith in
-    let b : (low + 256 * high) / 256 ≡ high = omega arith in
-    rw (a, b)
-
-none : (high : ℕ) → lowAndHigh 256 (256 * high) ≡ 0 ∷ high ∷ []
-none high =
-    let a : 256 * high % 256 ≡ 0 = omega arith in
-    let b : 256 * high / 256 ≡ high = omega arith in
-    rw (a, b)
-
-wide : (low high : ℕ) → low < 65536 → 0 ∷ lowAndHigh 65536 (low + 65536 * high) ≡ 0 ∷ low ∷ high ∷ []
-wide low high h =
-    let a : (low + 65536 * high) % 65536 ≡ low = omega arith in
-    let b : (low + 65536 * high) / 65536 ≡ high = omega arith in
-    rw (a, b)
-
-seen-taken : (r : Seen) → SeenFits r → seenTaken (seenCode r) ≡ seenNumbers r
-unfolding seenTaken seenCode
-seen-taken (No k) f = answer-taken (256 * k) (lowAndHigh 256) ∙ ap (λ (l : List ℕ). 0 ∷ l) (none k)
-seen-taken (Yes k) f = answer-taken (1 + 256 * k) (lowAndHigh 256) ∙ two 1 k (omega arith)
-seen-taken (Undeclared k) f = answer-taken (2 + 256 * k) (lowAndHigh 256) ∙ two 2 k (omega arith)
-seen-taken (Seen·Refused n) f = refused-taken n _ f
-
-parted-taken : (r : Parted) → PartedFits r → partedTaken (partedCode r) ≡ partedNumbers r
-unfolding partedTaken partedCode
-parted-taken (Parted·Parts b e) f = answer-taken (b + 65536 * e) (lowAndHigh 65536) ∙ wide b e (f .0)
-parted-taken (Parted·Refused n) f = refused-taken n _ f
-
-edited-taken : (r : Edited) → EditedFits r → editedTaken (editedCode r) ≡ editedNumbers r
-unfolding editedTaken editedCode
-edited-taken Done f = refl
-edited-taken (Edited·Refused n) f =
-    rw (refusal-in n 0 0 (omega (arith, f .0 .1)) (omega arith), ne-eqb n innerNumber (f .1))
-edited-taken (Inner n) f =
-    rw (refusal-in innerNumber n 0 (omega arith) (omega (arith, f)), inner-in innerNumber n 0 (omega arith) (omega (arith, f)))
-
--- A default, and a table: its numbers are in the two answers.
-module _ (n b : ℕ) (f : HeldFits (Default n b)) where
-  abbrev c : ℕ
-  c = coded 0 0 (n + 256 * b)
-
-  default-taken : heldTaken c 0 ≡ 0 ∷ n ∷ b ∷ []
-  unfolding heldTaken
-  default-taken =
-      let some = f .0 in
-      let low = f .1 in
-      let bit = f .2 in
-      let v = values-in 0 0 (n + 256 * b) (omega arith) (omega arith) in
-      let d : defaultIn c ≡ n = rw v (omega arith) in
-      let i : imcrIn c ≡ b = rw v (omega arith) in
-      rw (refusal-in 0 0 (n + 256 * b) (omega arith) (omega arith), d, i, ne-eqb n 0 (λ z. omega (arith, some, z)))
-
-module _ (p b a s e : ℕ) (f : HeldFits (Table p b a s e)) where
-  abbrev k : ℕ
-  k = 256 * b + 65536 * s + 2 ^ 32 * (e - s)
-
-  table-taken : heldTaken (coded 0 0 k) (p * 2 ^ 32 + a) ≡ 0 ∷ p ∷ b ∷ a ∷ s ∷ e ∷ []
-  unfolding heldTaken
-  table-taken =
-      let bit = f .1 in
-      let low = f .2 in
-      let start = f .3 in
-      let order = f .4 in
-      let size = f .5 in
-      let v = values-in 0 0 k (omega arith) (omega arith) in
-      let d : defaultIn (coded 0 0 k) ≡ 0 = rw v (omega arith) in
-      let i : imcrIn (coded 0 0 k) ≡ b = rw v (omega arith) in
-      let up : k / 65536 ≡ s + 65536 * (e - s) = omega arith in
-      let from : startIn (coded 0 0 k) ≡ s = rw (v, up) (omega arith) in
-      let long : lengthIn (coded 0 0 k) ≡ e - s = rw v (omega arith) in
-      let end : s + (e - s) ≡ e = omega arith in
-      let high : (p * 2 ^ 32 + a) / 2 ^ 32 ≡ p = omega arith in
-      let rest : (p * 2 ^ 32 + a) % 2 ^ 32 ≡ a = omega arith in
-      rw (refusal-in 0 0 k (omega arith) (omega arith), d, i, from, long, end, high, rest)
-
-refused-held : (n : ℕ) → Number n → heldTaken (coded n 0 0) 0 ≡ n ∷ []
-unfolding heldTaken
-refused-held n h = refused-taken n _ h
-
-held-taken : (r : Held) → HeldFits r → heldTaken (heldCode r) (addressesCode r) ≡ heldNumbers r
-unfolding heldCode addressesCode
-held-taken (Default n b) f = default-taken n b f
-held-taken (Table p b a s e) f = table-taken p b a s e f
-held-taken (Held·Refused n) f = refused-held n f
-
--- ---- Each call
-
-pub judge-told : (t : List ℕ) → refusalIn (coded (tableRefusal t) 0 0) ∷ [] ≡ judgedNumbers (judged t)
+pub judge-told : (t : List ℕ) → numbersIn [] (judgedCode (judged t)) ≡ judgedNumbers (judged t)
 unfolding judged
-judge-told t = rw (refusal-in (tableRefusal t) 0 0 (omega (arith, table-below t)) (omega arith)) (judged-number (tableRefusal t))
-  where
-    judged-number : (n : ℕ) → n ∷ [] ≡ judgedNumbers (judgedOf n)
-    judged-number zero = refl
-    judged-number (suc n) = refl
+judge-told t = judged-told (tableRefusal t) (table-below t)
 
-pub parts-told : (t : List ℕ) → partedTaken (partedCode (parted t)) ≡ partedNumbers (parted t)
-parts-told t = parted-taken (parted t) (parts-fit t)
+-- ---- The calls that are lent a room
 
--- The rest is said of bytes, which is what a call is lent.
-pub entry-told : (t : List ℕ) (place : ℕ) → Bytes t → countTaken (foundCode (found t place)) ≡ foundNumbers (found t place)
-entry-told t place small = found-taken (found t place) (entry-fits t place small)
+lent-told : (n count : ℕ) → n < 2 ^ 8 → (n ≡ 0 → count < 2 ^ 48) → numbersIn countRow (lentCode (lentOf n count)) ≡ lentNumbers (lentOf n count)
+unfolding lentCode
+lent-told zero count h f = answer countRow (count ∷ []) (f refl, omega arith)
+lent-told (suc n) count h f = refused countRow n h
 
-pub read-told : (d : List ℕ) → Bytes d → heldTaken (heldCode (held d)) (addressesCode (held d)) ≡ heldNumbers (held d)
-read-told d small = held-taken (held d) (held-fits d small)
+list-below : (d room : List ℕ) → listRefusal d room < 2 ^ 8
+unfolding listRefusal lentRefusal dumpRules pointerRules tableRules any
+list-below d room =
+    whether (isDefault d)
+    (λ t. rw t (byte-below _ refl))
+    (λ f. rw f (byte-below _ refl))
 
-pub list-told : (d room : List ℕ) → countTaken (writtenCode (listed d room)) ≡ writtenNumbers (listed d room)
-list-told d room = written-taken (listed d room) (list-fits d room)
+pub list-told : (d room : List ℕ) → numbersIn countRow (lentCode (listed d room)) ≡ lentNumbers (listed d room)
+unfolding listed
+list-told d room =
+    lent-told (listRefusal d room) (length (listing d)) (list-below d room) (λ e. omega (arith, list-most d room e))
 
-pub routes-told : (side : Side) (t : List ℕ) (itype bus irq : ℕ) (room : List ℕ) → Bytes t
-    → countTaken (routedCode (routed side t itype bus irq room)) ≡ routedNumbers (routed side t itype bus irq room)
-routes-told side t itype bus irq room small =
-    routed-taken (routed side t itype bus irq room) (routes-fit side t itype bus irq room small)
+first-below : (a b : ℕ) → a < 2 ^ 8 → b < 2 ^ 8 → first a b < 2 ^ 8
+first-below zero b h k = k
+first-below (suc a) b h k = h
+
+write-below : (p : Parts) (room : List ℕ) → writeRefusal p room < 2 ^ 8
+unfolding writeRefusal earlyRefusal lentRefusal partRules any
+write-below p room =
+    first-below (earlyRefusal p room) (tableRefusal (image p)) (byte-below _ refl) (table-below (image p))
+
+pub write-told : (p : Parts) (room : List ℕ) → numbersIn countRow (lentCode (written p room)) ≡ lentNumbers (written p room)
+unfolding written
+write-told p room = lent-told (writeRefusal p room) (imageSize p) (write-below p room) (λ e. omega (arith, written-most p room e))
+
+-- From here on it is said of bytes, which is what a call is lent, where a value is as wide as the bytes that it is read from.
+route-below : (q : Question) (t room : List ℕ) → routeRefusal q t room < 2 ^ 8
+unfolding routeRefusal lentRefusal lineRules tableRules any
+route-below q t room = byte-below _ refl
+
+pub routes-told : (q : Question) (t room : List ℕ) → Bytes t → numbersIn countRow (lentCode (routed q t room)) ≡ lentNumbers (routed q t room)
+unfolding routed
+routes-told q t room b =
+    lent-told (routeRefusal q t room) (length (routesOf q t) / pairSize) (route-below q t room)
+    (λ e. omega (arith, routes-most q t room b e))
+
+-- ---- The entry at a place
+
+found-told : (n : ℕ) → n < 2 ^ 8 → numbersIn countRow (foundCode (foundOf n)) ≡ foundNumbers (foundOf n)
+unfolding foundCode
+found-told zero h = answer countRow (0 ∷ []) (omega arith, omega arith)
+found-told (suc n) h = answer countRow (suc n ∷ []) (omega arith, omega arith)
+
+pub entry-told : (t : List ℕ) (place : ℕ) → Bytes t → numbersIn countRow (foundCode (found t place)) ≡ foundNumbers (found t place)
+unfolding found
+entry-told t place b = found-told (sizeAt t place) (size-most t place b)
+
+-- ---- Where the parts of a table stand
+
+parted-told : (n base end : ℕ) → n < 2 ^ 8 → (n ≡ 0 → Fit partedRow (base ∷ end ∷ []))
+    → numbersIn partedRow (partedCode (partedOf n (Parted·Parts base end))) ≡ partedNumbers (partedOf n (Parted·Parts base end))
+unfolding partedCode
+parted-told zero base end h f = answer partedRow (base ∷ end ∷ []) (f refl)
+parted-told (suc n) base end h f = refused partedRow n h
+
+pub parts-told : (t : List ℕ) → numbersIn partedRow (partedCode (parted t)) ≡ partedNumbers (parted t)
+unfolding parted
+parts-told t =
+    parted-told (tableRefusal t) (baseLength t) (extendedEnd t) (table-below t)
+    (λ e. let s = sound t e in (omega (arith, s .most), (omega (arith, s .most, s .extended-most), omega arith)))
+
+-- ---- What a bus sees: a climb refuses nothing
+
+seen-told : (n : ℕ) (r : Seen) → n < 2 ^ 8 → linksOf (seenOf n r) < 2 ^ 40 → ofSeen r ≡ 0
+    → numbersIn seenRow (seenCode (seenOf n r)) ≡ seenNumbers (seenOf n r)
+unfolding seenCode ofSeen
+seen-told zero (No k) h l f = answer seenRow (0 ∷ k ∷ []) (omega arith, (l, omega arith))
+seen-told zero (Yes k) h l f = answer seenRow (1 ∷ k ∷ []) (omega arith, (l, omega arith))
+seen-told zero (Undeclared k) h l f = answer seenRow (2 ∷ k ∷ []) (omega arith, (l, omega arith))
+seen-told zero (Seen·Refused n) h l f = absurd (omega arith)
+seen-told (suc n) r h l f = refused seenRow n h
+
+address-below : (t : List ℕ) (bus kind : ℕ) → refusal (addressRules t bus kind) < 2 ^ 8
+unfolding addressRules tableRules any
+address-below t bus kind = byte-below (addressRules t bus kind) refl
 
 pub address-told : (t : List ℕ) (bus kind address : ℕ) → Bytes t
-    → seenTaken (seenCode (seen t bus kind address)) ≡ seenNumbers (seen t bus kind address)
-address-told t bus kind address small = seen-taken (seen t bus kind address) (address-fits t bus kind address small)
+    → numbersIn seenRow (seenCode (seen t bus kind address)) ≡ seenNumbers (seen t bus kind address)
+unfolding seen
+address-told t bus kind address b =
+    seen-told (refusal (addressRules t bus kind)) (seenBy t bus kind address) (address-below t bus kind)
+    (omega (arith, links-most t bus kind address b)) (seen-by-raised t bus kind address)
 
-pub write-told : (p : Parts) (room : List ℕ) → countTaken (writtenCode (written p room)) ≡ writtenNumbers (written p room)
-write-told p room = written-taken (written p room) (write-fits p room)
+-- ---- What became of an edit
 
-pub edit-told : (t : List ℕ) (e : Edit) → editedTaken (editedCode (edited t e)) ≡ editedNumbers (edited t e)
-edit-told t e = edited-taken (edited t e) (edit-fits t e)
+edited-in : (numbers : List ℕ) → Fit editedRow numbers → editedIn (packed editedRow numbers) ≡ editedFrom (padded editedRow numbers)
+unfolding editedIn
+edited-in numbers f = rw (taken-packed editedRow numbers f)
+
+edited-told : (n inner : ℕ) → n < 2 ^ 8 → inner < 2 ^ 8 → editedIn (editedCode (editedOf n inner)) ≡ editedNumbers (editedOf n inner)
+unfolding editedCode
+edited-told zero inner h k = edited-in (0 ∷ []) (omega arith, omega arith)
+edited-told (suc n) inner h k =
+    whether (eqb (suc n) innerNumber)
+    (λ t. rw t (edited-in (innerNumber ∷ inner ∷ []) (omega arith, (k, omega arith))))
+    (λ f. rw f (rw f at (edited-in (suc n ∷ []) (h, omega arith))))
+
+edit-below : (t : List ℕ) (e : Edit) → editRefusal t e < 2 ^ 8
+unfolding editRefusal editRules tableRules any
+edit-below t e = byte-below (editRules t e) refl
+
+pub edit-told : (t : List ℕ) (e : Edit) → editedIn (editedCode (edited t e)) ≡ editedNumbers (edited t e)
+unfolding edited innerRefusal
+edit-told t e = edited-told (editRefusal t e) (innerRefusal t e) (edit-below t e) (table-below (editedTable t e))
+
+-- ---- What a dump holds: both codes together
+
+module _ (n : ℕ) (places addresses : List ℕ) where
+  held-told : n < 2 ^ 8 → Fit heldRow places → Fit addressesRow addresses
+      → heldIn (coded heldRow (n ∷ places)) (packed addressesRow addresses)
+      ≡ answered n (heldFrom (padded heldRow places) (padded addressesRow addresses))
+  unfolding heldIn
+  held-told h f g =
+      rw (refusal-in heldRow places n h, values-in heldRow places n h, taken-packed heldRow places f, taken-packed addressesRow addresses g)
+
+dump-below : (d : List ℕ) → dumpRefusal d < 2 ^ 8
+unfolding dumpRefusal dumpRules pointerRules tableRules any
+dump-below d =
+    whether (isDefault d)
+    (λ t. rw t (byte-below _ refl))
+    (λ f. rw f (byte-below _ refl))
+
+pub read-told : (d : List ℕ) → Bytes d → heldIn (heldCode (held d)) (addressesCode (held d)) ≡ heldNumbers (held d)
+unfolding heldCode addressesCode
+read-told d small = cases (held d) refl
+  where
+    cases : (r : Held) → held d ≡ r → heldIn (heldCode r) (addressesCode r) ≡ heldNumbers r
+    cases (Default zero b) q = absurd (omega (arith, default-narrow d zero b q .0))
+    cases (Default (suc n) b) q =
+        let k = default-narrow d (suc n) b q in
+        held-told 0 (suc n ∷ b ∷ []) [] (omega arith) (omega (arith, k .1), (omega (arith, k .2), omega arith)) (omega arith)
+    cases (Table p b a s e) q =
+        let k = table-narrow d p b a s e small q in
+        let h = held-table d p b a s e q in
+        let w = h .1 in
+        let long = sound (part s e d) (sym (w .rules) ∙ h .0) .long in
+        let l = length-part s e d (w .inside) in
+        let end : s + (e - s) ≡ e = omega (arith, w .order) in
+        let start : s < 2 ^ 16 = omega (arith, long, l, w .order, w .inside, w .most) in
+        let size : e - s < 2 ^ 16 = omega (arith, w .shorter, w .most) in
+        rw end at (held-told 0 (0 ∷ b ∷ s ∷ (e - s) ∷ []) (a ∷ p ∷ []) (omega arith)
+        (omega arith, (omega (arith, k .1), (start, (size, omega arith))))
+        (k .2, (k .0, omega arith)))
+    cases (Held·Refused zero) q = absurd (omega (arith, held-number d zero q .1))
+    cases (Held·Refused (suc n)) q = held-told (suc n) [] [] (omega (arith, held-number d (suc n) q .0, dump-below d)) (omega arith) (omega arith)

@@ -1,127 +1,123 @@
 -- An answer as one number for C, what C takes out of it again, and the arguments of a call from C as the definitions take
 -- them. include/ruxtajma.h says the same in its words.
-use Prim.Native.Nat.{ℕ, zero, suc, _+_, _*_, _-_, _/_, _%_, _^_}
-use mathlib.Core.Bool.{cond}
+use Prim.Native.Nat.{ℕ, zero, suc, _+_, _-_, _/_, _%_, _^_}
 use mathlib.Core.List.{List, [], _∷_}
+use lib.ListN.{getD}
 use lib.Dec.{eqb}
+use Rattle.packs.specs.Packs.{packed, taken}
 use Rattle.mps.specs.Words.{exactly, only}
 use Rattle.mps.specs.Refusals.{innerNumber}
+use Rattle.mps.specs.Answers.{judgedNumbers, lentNumbers, foundNumbers, partedNumbers, seenNumbers, editedNumbers}
 use Rattle.mps.specs.declared.Fields.{Fields}
-use Rattle.mps.specs.declared.Held.{Held}
-use Rattle.mps.specs.declared.Held.the-variants.{Default, Table, Refused as Held·Refused}
-use Rattle.mps.specs.declared.Written.{Written}
-use Rattle.mps.specs.declared.Written.the-variants.{Bytes, Refused}
-use Rattle.mps.specs.declared.Parted.{Parted}
-use Rattle.mps.specs.declared.Parted.the-variants.{Parts, Refused as Parted·Refused}
-use Rattle.mps.specs.declared.Routed.{Routed}
-use Rattle.mps.specs.declared.Routed.the-variants.{Pairs, Refused as Routed·Refused}
-use Rattle.mps.specs.declared.Seen.{Seen}
-use Rattle.mps.specs.declared.Seen.the-variants.{No, Yes, Undeclared, Refused as Seen·Refused}
-use Rattle.mps.specs.declared.Edited.{Edited}
-use Rattle.mps.specs.declared.Edited.the-variants.{Done, Refused as Edited·Refused, Inner}
+use Rattle.mps.specs.declared.Judged.{Judged}
+use Rattle.mps.specs.declared.Lent.{Lent}
 use Rattle.mps.specs.declared.Found.{Found}
-use Rattle.mps.specs.declared.Found.the-variants.{Whole, Nothing}
+use Rattle.mps.specs.declared.Parted.{Parted}
+use Rattle.mps.specs.declared.Seen.{Seen}
+use Rattle.mps.specs.declared.Edited.{Edited}
+use Rattle.mps.specs.declared.Held.{Held}
+use Rattle.mps.specs.declared.Held.the-variants.{Default, Table, Refused}
 
--- ---- Answers
+-- ---- The rows: how many bits each value of an answer has, from bit 16 on, the first in the lowest
 
--- The refusal's number in the low byte, the inner number in the second, the values in the 48 bits above.
-abbrev pub coded : ℕ → ℕ → ℕ → ℕ
-coded number inner values = number + 256 * inner + 65536 * values
+abbrev pub countRow : List ℕ
+countRow = 48 ∷ []
 
--- How many bytes stand in the room.
-unfoldable pub writtenCode : Written → ℕ
-writtenCode (Bytes count) = coded 0 0 count
-writtenCode (Refused n) = coded n 0 0
+abbrev pub partedRow : List ℕ
+partedRow = 16 ∷ 32 ∷ []
 
--- How many pairs do.
-unfoldable pub routedCode : Routed → ℕ
-routedCode (Pairs count) = coded 0 0 count
-routedCode (Routed·Refused n) = coded n 0 0
+abbrev pub seenRow : List ℕ
+seenRow = 8 ∷ 40 ∷ []
 
--- 0 for no, 1 for yes, 2 for undeclared; above it the links climbed.
+abbrev pub heldRow : List ℕ
+heldRow = 8 ∷ 8 ∷ 16 ∷ 16 ∷ []
+
+abbrev pub addressesRow : List ℕ
+addressesRow = 32 ∷ 32 ∷ []
+
+-- An edit has no values; it alone has something for the second byte, the inner number.
+abbrev pub editedRow : List ℕ
+editedRow = 8 ∷ 8 ∷ []
+
+-- ---- The code of an answer
+
+-- From its numbers: the refusal's in the low byte, 0 in the second, the values above by their row.
+abbrev pub coded : List ℕ → List ℕ → ℕ
+coded row [] = 0
+coded row (number ∷ values) = packed (8 ∷ 8 ∷ row) (number ∷ 0 ∷ values)
+
+unfoldable pub judgedCode : Judged → ℕ
+judgedCode answer = coded [] (judgedNumbers answer)
+
+unfoldable pub lentCode : Lent → ℕ
+lentCode answer = coded countRow (lentNumbers answer)
+
+unfoldable pub foundCode : Found → ℕ
+foundCode answer = coded countRow (foundNumbers answer)
+
+unfoldable pub partedCode : Parted → ℕ
+partedCode answer = coded partedRow (partedNumbers answer)
+
 unfoldable pub seenCode : Seen → ℕ
-seenCode (No links) = coded 0 0 (256 * links)
-seenCode (Yes links) = coded 0 0 (1 + 256 * links)
-seenCode (Undeclared links) = coded 0 0 (2 + 256 * links)
-seenCode (Seen·Refused n) = coded n 0 0
+seenCode answer = coded seenRow (seenNumbers answer)
 
 unfoldable pub editedCode : Edited → ℕ
-editedCode Done = coded 0 0 0
-editedCode (Edited·Refused n) = coded n 0 0
-editedCode (Inner n) = coded innerNumber n 0
+editedCode answer = packed editedRow (editedNumbers answer)
 
--- The number of a default configuration, 0 for a table; the IMCR bit; then where a table begins, and how many bytes lie
--- from there to the end of its region.
+-- What a dump holds is told in two codes. The first has the number of a default configuration, 0 for a table; the IMCR bit;
+-- then where a table begins, and how many bytes lie from there to the end of its region.
+abbrev pub heldPlaces : Held → List ℕ
+heldPlaces (Default number imcr) = 0 ∷ number ∷ imcr ∷ []
+heldPlaces (Table pointer imcr address start end) = 0 ∷ 0 ∷ imcr ∷ start ∷ (end - start) ∷ []
+heldPlaces (Refused n) = n ∷ []
+
 unfoldable pub heldCode : Held → ℕ
-heldCode (Default number imcr) = coded 0 0 (number + 256 * imcr)
-heldCode (Table pointer imcr address start end) = coded 0 0 (256 * imcr + 65536 * start + 2 ^ 32 * (end - start))
-heldCode (Held·Refused n) = coded n 0 0
+heldCode answer = coded heldRow (heldPlaces answer)
 
--- The one answer with no refusal in it: the floating pointer's address and the table's.
+-- The second is the one code with no refusal in it: the table's address and the floating pointer's.
+abbrev pub heldAddresses : Held → List ℕ
+heldAddresses (Default number imcr) = []
+heldAddresses (Table pointer imcr address start end) = address ∷ pointer ∷ []
+heldAddresses (Refused n) = []
+
 unfoldable pub addressesCode : Held → ℕ
-addressesCode (Default number imcr) = 0
-addressesCode (Table pointer imcr address start end) = pointer * 2 ^ 32 + address
-addressesCode (Held·Refused n) = 0
+addressesCode answer = packed addressesRow (heldAddresses answer)
 
--- The base end, and above it the extended end.
-unfoldable pub partedCode : Parted → ℕ
-partedCode (Parts base end) = coded 0 0 (base + 65536 * end)
-partedCode (Parted·Refused n) = coded n 0 0
-
--- The length of the entry, 0 where there is none.
-unfoldable pub foundCode : Found → ℕ
-foundCode (Whole size) = coded 0 0 size
-foundCode Nothing = coded 0 0 0
-
--- ---- What C takes out of an answer: the functions of the header, by shifts and masks there
+-- ---- What C takes out of a code: the functions of the header, by shifts and masks there
 
 abbrev pub refusalIn : ℕ → ℕ
-refusalIn c = c % 256
-
-abbrev pub innerIn : ℕ → ℕ
-innerIn c = c / 256 % 256
+refusalIn code = code % 2 ^ 8
 
 abbrev pub valuesIn : ℕ → ℕ
-valuesIn c = c / 65536
+valuesIn code = code / 2 ^ 16
 
--- The numbers of an answer, as mps's specs/Answers.antt has them: the values are there where nothing is refused.
+-- The values are there where nothing is refused.
 abbrev pub answered : ℕ → List ℕ → List ℕ
 answered zero values = 0 ∷ values
 answered (suc n) values = suc n ∷ []
 
--- A count of bytes or of pairs.
-unfoldable pub countTaken : ℕ → List ℕ
-countTaken c = answered (refusalIn c) (valuesIn c ∷ [])
+-- The numbers of an answer, as mps's specs/Answers.antt has them.
+unfoldable pub numbersIn : List ℕ → ℕ → List ℕ
+numbersIn row code = answered (refusalIn code) (taken row (valuesIn code))
 
-unfoldable pub seenTaken : ℕ → List ℕ
-seenTaken c = answered (refusalIn c) (valuesIn c % 256 ∷ valuesIn c / 256 ∷ [])
+-- The inner number is there at 23.
+abbrev pub editedFrom : List ℕ → List ℕ
+editedFrom [] = []
+editedFrom (number ∷ inner) = number ∷ only (eqb number innerNumber) inner
 
-unfoldable pub editedTaken : ℕ → List ℕ
-editedTaken c = refusalIn c ∷ only (eqb (refusalIn c) innerNumber) (innerIn c ∷ [])
+unfoldable pub editedIn : ℕ → List ℕ
+editedIn code = editedFrom (taken editedRow code)
 
--- Of what a dump holds, from the answers of both calls.
+-- A default has a number, which is not 0.
+abbrev pub heldValues : ℕ → ℕ → ℕ → ℕ → ℕ → ℕ → List ℕ
+heldValues zero imcr start size address pointer = pointer ∷ imcr ∷ address ∷ start ∷ (start + size) ∷ []
+heldValues (suc number) imcr start size address pointer = suc number ∷ imcr ∷ []
 
-abbrev pub defaultIn : ℕ → ℕ
-defaultIn c = valuesIn c % 256
+abbrev pub heldFrom : List ℕ → List ℕ → List ℕ
+heldFrom p a = heldValues (getD p 0 0) (getD p 1 0) (getD p 2 0) (getD p 3 0) (getD a 0 0) (getD a 1 0)
 
-abbrev pub imcrIn : ℕ → ℕ
-imcrIn c = valuesIn c / 256 % 256
-
-abbrev pub startIn : ℕ → ℕ
-startIn c = valuesIn c / 65536 % 65536
-
-abbrev pub lengthIn : ℕ → ℕ
-lengthIn c = valuesIn c / 2 ^ 32
-
-unfoldable pub heldTaken : ℕ → ℕ → List ℕ
-heldTaken c a =
-    answered (refusalIn c)
-    (cond {A = List ℕ} (eqb (defaultIn c) 0)
-    ((a / 2 ^ 32) ∷ imcrIn c ∷ (a % 2 ^ 32) ∷ startIn c ∷ (startIn c + lengthIn c) ∷ [])
-    (defaultIn c ∷ imcrIn c ∷ []))
-
-unfoldable pub partedTaken : ℕ → List ℕ
-partedTaken c = answered (refusalIn c) (valuesIn c % 65536 ∷ valuesIn c / 65536 ∷ [])
+unfoldable pub heldIn : ℕ → ℕ → List ℕ
+heldIn code addresses = answered (refusalIn code) (heldFrom (taken heldRow (valuesIn code)) (taken addressesRow addresses))
 
 -- ---- Arguments
 

@@ -1,35 +1,37 @@
 // The calls for C: the proved library under plain names, for a static library (`rt staticlib exports`).
 //
 // include/ruxtajma.h has the prototypes, what a caller lends, and how an answer is taken apart. Promised of any bytes: each
-// call answers what the call of the library does, as one number, `coded` in specs/Codes.antt: the refusal's number, the
-// inner number, and the values above them; what was lent is left as that call leaves it. The definitions stand in mps's
-// specs/Judge.antt, Listing.antt, Writing.antt, Edits.antt, Reader.antt, Routes.antt and Addresses.antt.
+// call answers what the call of the library does, as one number, and leaves what was lent as that call leaves it. Which
+// number stands for an answer is in specs/Codes.antt, a row of widths for each kind; the definitions of the answers stand in
+// mps's specs/Judge.antt, Listing.antt, Writing.antt, Edits.antt, Reader.antt, Routes.antt and Addresses.antt.
 //
 // Nothing is lost: of every answer that a call can give, C takes out the numbers that mps's specs/Answers.antt has for it.
-// proofs/Told.antt proves it, a theorem for each call; that the values fit their 48 bits is in proofs/Fits.antt.
+// proofs/Told.antt proves it, a theorem for each call. A function below cuts each value to its width, and so needs to know
+// nothing of the call that its answer comes from; that nothing is there to cut is part of the same theorems.
 use mps::Edited;
 use mps::Fields;
 use mps::Found;
 use mps::Held;
+use mps::Lent;
 use mps::Parted;
-use mps::Routed;
 use mps::Seen;
-use mps::Written;
 ghost use mathlib.Core.Path.{_≡_};
-ghost use Prim.Native.Nat.{_+_, _-_, _*_, _^_, _≤_, _<_};
-ghost use Rattle.mps.specs.Judge.{tableRefusal, held};
+ghost use Prim.Native.Nat.{_-_, _*_, _%_, _^_};
+ghost use Rattle.mps.specs.Judge.{judged, held};
 ghost use Rattle.mps.specs.Listing.{listed, listLeft};
 ghost use Rattle.mps.specs.Rules.{ioSide, localSide};
-ghost use Rattle.mps.specs.Routes.{routed, routesLeft};
+ghost use Rattle.mps.specs.Routes.{question, routed, routesLeft};
 ghost use Rattle.mps.specs.Addresses.{seen};
 ghost use Rattle.mps.specs.Writing.{written, writeLeft, parted};
 ghost use Rattle.mps.specs.Edits.{edited, editLeft};
 ghost use Rattle.mps.specs.Reader.{found};
 ghost use Rattle.writer.specs.Laid.{partsGiven};
 ghost use Rattle.editor.specs.Tested.{editOf};
-ghost use Rattle.exports.specs.Codes.{coded as codedOf, writtenCode, routedCode, seenCode, editedCode, heldCode, addressesCode, partedCode, foundCode, fieldsGiven};
+ghost use Rattle.exports.specs.Codes.{judgedCode, lentCode, seenCode, editedCode, heldCode, addressesCode, partedCode, foundCode, fieldsGiven};
 
-// The second byte, the third, the fifth.
+// ---- An answer as one number
+
+// The second byte, the third, and so on.
 
 const BYTE: u64 = 256;
 
@@ -37,90 +39,122 @@ const TWO_BYTES: u64 = 65536;
 
 const FOUR_BYTES: u64 = 0x100000000;
 
-const INNER: u8 = 23;
+const FIVE_BYTES: u64 = 0x10000000000;
 
-// ---- An answer as one number
+const SIX_BYTES: u64 = 0x1000000000000;
 
-fn coded(number: u8, inner: u8, values: u64) -> u64
-    requires { ⌜ values < 2 ^ 48 ⌝ }
-    ensures { λ r. ⌜ r ≡ codedOf number inner values ⌝ }
+const INNER: u64 = 23;
+
+// The values stand above the refusal's number and the inner one.
+fn above(values: u64) -> u64
+    ensures { λ r. ⌜ r ≡ 2 ^ 16 * (values % 2 ^ 48) ⌝ }
 {
-    number as u64 + BYTE * inner as u64 + TWO_BYTES * values
+    TWO_BYTES * (values % SIX_BYTES)
 }
 
-fn refused(number: u8) -> u64
-    ensures { λ r. ⌜ r ≡ codedOf number 0 0 ⌝ }
-{
-    coded(number, 0, 0)
-}
-
-fn written_code(answer: Written) -> u64
-    requires { ⌜ writtenCode answer < 2 ^ 64 ⌝ }
-    ensures { λ r. ⌜ r ≡ writtenCode answer ⌝ }
+fn lent_code(answer: Lent) -> u64
+    ensures { λ r. ⌜ r ≡ lentCode answer ⌝ }
 {
     match answer {
-        Written::Bytes(n) => coded(0, 0, n as u64),
-        Written::Refused(n) => refused(n),
-    }
-}
-
-fn routed_code(answer: Routed) -> u64
-    requires { ⌜ routedCode answer < 2 ^ 64 ⌝ }
-    ensures { λ r. ⌜ r ≡ routedCode answer ⌝ }
-{
-    match answer {
-        Routed::Pairs(n) => coded(0, 0, n as u64),
-        Routed::Refused(n) => refused(n),
-    }
-}
-
-fn seen_code(answer: Seen) -> u64
-    requires { ⌜ seenCode answer < 2 ^ 64 ⌝ }
-    ensures { λ r. ⌜ r ≡ seenCode answer ⌝ }
-{
-    match answer {
-        Seen::No(links) => coded(0, 0, BYTE * links as u64),
-        Seen::Yes(links) => coded(0, 0, 1 + BYTE * links as u64),
-        Seen::Undeclared(links) => coded(0, 0, 2 + BYTE * links as u64),
-        Seen::Refused(n) => refused(n),
-    }
-}
-
-fn parted_code(answer: Parted) -> u64
-    requires { ⌜ partedCode answer < 2 ^ 64 ⌝ }
-    ensures { λ r. ⌜ r ≡ partedCode answer ⌝ }
-{
-    match answer {
-        Parted::Parts { base, end } => coded(0, 0, base as u64 + TWO_BYTES * end as u64),
-        Parted::Refused(n) => refused(n),
+        Lent::Count(n) => above(n as u64),
+        Lent::Refused(n) => n as u64,
     }
 }
 
 fn found_code(answer: Found) -> u64
-    requires { ⌜ foundCode answer < 2 ^ 64 ⌝ }
     ensures { λ r. ⌜ r ≡ foundCode answer ⌝ }
 {
     match answer {
-        Found::Whole(size) => coded(0, 0, size as u64),
+        Found::Whole(size) => above(size as u64),
         Found::Nothing => 0,
     }
 }
 
-// Where a table stands in its dump.
-fn place_values(imcr: u8, start: usize, end: usize) -> u64
-    requires { ⌜ (start < 65536) × (start ≤ end) × (end - start < 65536) ⌝ }
-    ensures { λ r. ⌜ (r ≡ 256 * imcr + 65536 * start + 2 ^ 32 * (end - start)) × (r < 2 ^ 48) ⌝ }
+fn parted_code(answer: Parted) -> u64
+    ensures { λ r. ⌜ r ≡ partedCode answer ⌝ }
 {
-    BYTE * imcr as u64 + TWO_BYTES * start as u64 + FOUR_BYTES * (end - start) as u64
+    match answer {
+        Parted::Parts { base, end } => {
+            above(base as u64 % TWO_BYTES + TWO_BYTES * (end as u64 % FOUR_BYTES))
+        }
+        Parted::Refused(n) => n as u64,
+    }
+}
+
+fn seen_code(answer: Seen) -> u64
+    ensures { λ r. ⌜ r ≡ seenCode answer ⌝ }
+{
+    match answer {
+        Seen::No(links) => above(BYTE * (links as u64 % FIVE_BYTES)),
+        Seen::Yes(links) => above(1 + BYTE * (links as u64 % FIVE_BYTES)),
+        Seen::Undeclared(links) => above(2 + BYTE * (links as u64 % FIVE_BYTES)),
+        Seen::Refused(n) => n as u64,
+    }
+}
+
+fn edited_code(answer: Edited) -> u64
+    ensures { λ r. ⌜ r ≡ editedCode answer ⌝ }
+{
+    match answer {
+        Edited::Done => 0,
+        Edited::Refused(n) => n as u64,
+        Edited::Inner(n) => INNER + BYTE * n as u64,
+    }
+}
+
+// How many bytes lie between two places.
+fn between(start: usize, end: usize) -> u64
+    ensures { λ r. ⌜ r ≡ end - start ⌝ }
+{
+    if end < start {
+        return 0;
+    }
+    (end - start) as u64
+}
+
+fn held_code(answer: Held) -> u64
+    ensures { λ r. ⌜ r ≡ heldCode answer ⌝ }
+{
+    match answer {
+        Held::Default { number, imcr } => above(number as u64 + BYTE * imcr as u64),
+        Held::Table {
+            pointer,
+            imcr,
+            address,
+            start,
+            end,
+        } => above(
+            BYTE * imcr as u64
+                + TWO_BYTES * (start as u64 % TWO_BYTES)
+                + FOUR_BYTES * (between(start, end) % TWO_BYTES),
+        ),
+        Held::Refused(n) => n as u64,
+    }
+}
+
+fn addresses_code(answer: Held) -> u64
+    ensures { λ r. ⌜ r ≡ addressesCode answer ⌝ }
+{
+    match answer {
+        Held::Default { number, imcr } => 0,
+        Held::Table {
+            pointer,
+            imcr,
+            address,
+            start,
+            end,
+        } => address as u64 + FOUR_BYTES * pointer as u64,
+        Held::Refused(n) => 0,
+    }
 }
 
 // ---- Of a table
 
 #[no_mangle]
 pub extern "C" fn ruxtajma_judge(t: &[u8]) -> u64
-    ensures { λ r. ⌜ r ≡ codedOf (tableRefusal (now (t .entry))) 0 0 ⌝ }
+    ensures { λ r. ⌜ r ≡ judgedCode (judged (now (t .entry))) ⌝ }
 {
-    refused(judge::refusal(t))
+    judge::refusal(t) as u64
 }
 
 #[no_mangle]
@@ -143,54 +177,32 @@ pub extern "C" fn ruxtajma_entry(t: &[u8], place: usize) -> u64
 pub extern "C" fn ruxtajma_read(d: &[u8]) -> u64
     ensures { λ r. ⌜ r ≡ heldCode (held (now (d .entry))) ⌝ }
 {
-    let answer = dump::read(d);
-    match answer {
-        Held::Default { number, imcr } => coded(0, 0, number as u64 + BYTE * imcr as u64),
-        Held::Table {
-            pointer,
-            imcr,
-            address,
-            start,
-            end,
-        } => coded(0, 0, place_values(imcr, start, end)),
-        Held::Refused(n) => refused(n),
-    }
+    held_code(dump::read(d))
 }
 
 #[no_mangle]
 pub extern "C" fn ruxtajma_addresses(d: &[u8]) -> u64
     ensures { λ r. ⌜ r ≡ addressesCode (held (now (d .entry))) ⌝ }
 {
-    let answer = dump::read(d);
-    match answer {
-        Held::Default { number, imcr } => 0,
-        Held::Table {
-            pointer,
-            imcr,
-            address,
-            start,
-            end,
-        } => pointer as u64 * FOUR_BYTES + address as u64,
-        Held::Refused(n) => 0,
-    }
+    addresses_code(dump::read(d))
 }
 
 #[no_mangle]
 pub extern "C" fn ruxtajma_list(d: &[u8], room: &mut [u8]) -> u64
-    ensures { λ r. ⌜ r ≡ writtenCode (listed (now (d .entry)) (now (room .entry))) ⌝ }
+    ensures { λ r. ⌜ r ≡ lentCode (listed (now (d .entry)) (now (room .entry))) ⌝ }
     ensures { λ _. ⌜ now (room .exit) ≡ listLeft (now (d .entry)) (now (room .entry)) ⌝ }
 {
-    written_code(listing::list(d, room))
+    lent_code(listing::list(d, room))
 }
 
 // ---- Queries
 
 #[no_mangle]
 pub extern "C" fn ruxtajma_io_routes(t: &[u8], itype: u8, bus: u8, irq: u8, room: &mut [u8]) -> u64
-    ensures { λ r. ⌜ r ≡ routedCode (routed ioSide (now (t .entry)) itype bus irq (now (room .entry))) ⌝ }
-    ensures { λ _. ⌜ now (room .exit) ≡ routesLeft ioSide (now (t .entry)) itype bus irq (now (room .entry)) ⌝ }
+    ensures { λ r. ⌜ r ≡ lentCode (routed (question ioSide itype bus irq) (now (t .entry)) (now (room .entry))) ⌝ }
+    ensures { λ _. ⌜ now (room .exit) ≡ routesLeft (question ioSide itype bus irq) (now (t .entry)) (now (room .entry)) ⌝ }
 {
-    routed_code(routes::io(t, itype, bus, irq, room))
+    lent_code(routes::io(t, itype, bus, irq, room))
 }
 
 #[no_mangle]
@@ -201,10 +213,10 @@ pub extern "C" fn ruxtajma_local_routes(
     irq: u8,
     room: &mut [u8],
 ) -> u64
-    ensures { λ r. ⌜ r ≡ routedCode (routed localSide (now (t .entry)) itype bus irq (now (room .entry))) ⌝ }
-    ensures { λ _. ⌜ now (room .exit) ≡ routesLeft localSide (now (t .entry)) itype bus irq (now (room .entry)) ⌝ }
+    ensures { λ r. ⌜ r ≡ lentCode (routed (question localSide itype bus irq) (now (t .entry)) (now (room .entry))) ⌝ }
+    ensures { λ _. ⌜ now (room .exit) ≡ routesLeft (question localSide itype bus irq) (now (t .entry)) (now (room .entry)) ⌝ }
 {
-    routed_code(routes::local(t, itype, bus, irq, room))
+    lent_code(routes::local(t, itype, bus, irq, room))
 }
 
 #[no_mangle]
@@ -228,7 +240,7 @@ pub extern "C" fn ruxtajma_write(
     extended: &[u8],
     room: &mut [u8],
 ) -> u64
-    ensures { λ r. ⌜ r ≡ writtenCode (written (partsGiven (fieldsGiven (now (oem .entry)) (now (product .entry)) pointer size apic reserved) (now (base .entry)) (now (extended .entry))) (now (room .entry))) ⌝ }
+    ensures { λ r. ⌜ r ≡ lentCode (written (partsGiven (fieldsGiven (now (oem .entry)) (now (product .entry)) pointer size apic reserved) (now (base .entry)) (now (extended .entry))) (now (room .entry))) ⌝ }
     ensures { λ _. ⌜ now (room .exit) ≡ writeLeft (partsGiven (fieldsGiven (now (oem .entry)) (now (product .entry)) pointer size apic reserved) (now (base .entry)) (now (extended .entry))) (now (room .entry)) ⌝ }
 {
     let mut id = [0; 8];
@@ -243,7 +255,7 @@ pub extern "C" fn ruxtajma_write(
         apic: apic,
         reserved: reserved,
     };
-    written_code(writer::write(fields, base, extended, room))
+    lent_code(writer::write(fields, base, extended, room))
 }
 
 #[no_mangle]
@@ -251,10 +263,5 @@ pub extern "C" fn ruxtajma_edit(t: &mut [u8], place: usize, stated: &[u8], wante
     ensures { λ r. ⌜ r ≡ editedCode (edited (now (t .entry)) (editOf place (now (stated .entry)) (now (wanted .entry)))) ⌝ }
     ensures { λ _. ⌜ now (t .exit) ≡ editLeft (now (t .entry)) (editOf place (now (stated .entry)) (now (wanted .entry))) ⌝ }
 {
-    let answer = editor::edit(t, place, stated, wanted);
-    match answer {
-        Edited::Done => 0,
-        Edited::Refused(n) => refused(n),
-        Edited::Inner(n) => coded(INNER, n, 0),
-    }
+    edited_code(editor::edit(t, place, stated, wanted))
 }

@@ -1,0 +1,17 @@
+-- Each answer by the number that stands for it.
+use native.Mathlib.Omega.{arith}
+use borrow.Author.Needs.{needs}
+use Rattle.packs.specs.Packs.{packed}
+use Rattle.exports.specs.Codes.{lentCode}
+use Rattle.exports.proofs.Laws.{code-is}
+use Rattle.exports.proofs.lent_code.Statement.{statement}
+use Rattle.exports.proofs.lent_code.Tie as tie
+
+pub lent-code-spec : {M : Type 1} → statement M
+unfolding lentCode packed
+lent-code-spec =
+    tie.close
+    (tie.spec
+    (λ c. search needs) (λ c κs. search needs) (λ c. search needs) (λ c. search needs)
+    (λ c. code-is lentCode (c .before .before .answer .given .1) (omega arith))
+    (λ c. code-is lentCode (c .before .answer2 .given .1) (omega arith)))
