@@ -66,7 +66,7 @@ static inline size_t ruxtajma_count(uint64_t answer)
 /* ---- the calls ---- */
 
 /* Judges a bare table.  5 to 18, or accepted.  Writes nothing. */
-uint64_t ruxtajma_judge(const uint8_t *table, size_t length);
+uint64_t ruxtajma_judge(const uint8_t *table, size_t table_length);
 
 /*
  * What a dump holds.  1 to 18; or a default configuration, whose number, 1 to 7,
@@ -75,7 +75,7 @@ uint64_t ruxtajma_judge(const uint8_t *table, size_t length);
  * there to the end of its region.  Of both, ruxtajma_imcr() is the IMCR bit, 0 or
  * 1.  Writes nothing.
  */
-uint64_t ruxtajma_read(const uint8_t *dump, size_t length);
+uint64_t ruxtajma_read(const uint8_t *dump, size_t dump_length);
 
 static inline unsigned ruxtajma_default(uint64_t answer)
 {
@@ -101,7 +101,7 @@ static inline size_t ruxtajma_length(uint64_t answer)
  * The physical addresses in a dump that holds an accepted table, and 0 for any
  * other dump: this is the one answer with no refusal in it.  Writes nothing.
  */
-uint64_t ruxtajma_addresses(const uint8_t *dump, size_t length);
+uint64_t ruxtajma_addresses(const uint8_t *dump, size_t dump_length);
 
 static inline uint32_t ruxtajma_pointer_address(uint64_t answer)
 {
@@ -118,7 +118,7 @@ static inline uint32_t ruxtajma_table_address(uint64_t answer)
  * behind it, and what lies past it stays.  1 to 19, or the count of bytes.  A room
  * of 65,536 bytes holds every listing.
  */
-uint64_t ruxtajma_list(const uint8_t *dump, size_t length,
+uint64_t ruxtajma_list(const uint8_t *dump, size_t dump_length,
                        uint8_t *room, size_t room_length);
 
 /*
@@ -144,7 +144,7 @@ uint64_t ruxtajma_write(const uint8_t *oem, size_t oem_length,
  * (OEM ID), 16 (product), 28 (OEM pointer), 32 (OEM size), 36 (local APIC address)
  * and 43 (reserved).  Writes nothing.
  */
-uint64_t ruxtajma_parts(const uint8_t *table, size_t length);
+uint64_t ruxtajma_parts(const uint8_t *table, size_t table_length);
 
 static inline size_t ruxtajma_base_end(uint64_t answer)
 {
@@ -161,7 +161,7 @@ static inline size_t ruxtajma_extended_end(uint64_t answer)
  * the table, and the base checksum for them; every other byte is as it was.  5 to
  * 18, 20 to 22, or 23 with an inner number: every byte is as it was.
  */
-uint64_t ruxtajma_edit(uint8_t *table, size_t length, size_t place,
+uint64_t ruxtajma_edit(uint8_t *table, size_t table_length, size_t place,
                        const uint8_t *stated, size_t stated_length,
                        const uint8_t *wanted, size_t wanted_length);
 
@@ -170,7 +170,7 @@ uint64_t ruxtajma_edit(uint8_t *table, size_t length, size_t place,
  * where no whole entry stands.  The next one is that many bytes further.  It
  * refuses nothing and writes nothing.
  */
-uint64_t ruxtajma_entry(const uint8_t *table, size_t length, size_t place);
+uint64_t ruxtajma_entry(const uint8_t *table, size_t table_length, size_t place);
 
 /*
  * Where an interrupt line goes, given its type (0 INT, 1 NMI, 2 SMI, 3 ExtINT), bus
@@ -178,10 +178,10 @@ uint64_t ruxtajma_entry(const uint8_t *table, size_t length, size_t place);
  * on, and what lies past them stays.  5 to 18, 24 or 19, or the count of pairs.  To
  * I/O APICs, and to local APICs.
  */
-uint64_t ruxtajma_io_routes(const uint8_t *table, size_t length,
+uint64_t ruxtajma_io_routes(const uint8_t *table, size_t table_length,
                             uint8_t type, uint8_t bus, uint8_t irq,
                             uint8_t *room, size_t room_length);
-uint64_t ruxtajma_local_routes(const uint8_t *table, size_t length,
+uint64_t ruxtajma_local_routes(const uint8_t *table, size_t table_length,
                                uint8_t type, uint8_t bus, uint8_t irq,
                                uint8_t *room, size_t room_length);
 
@@ -190,7 +190,7 @@ uint64_t ruxtajma_local_routes(const uint8_t *table, size_t length,
  * or 24; or ruxtajma_seen(), one of the three, and ruxtajma_links() of how many
  * links to parents were climbed.  Writes nothing.
  */
-uint64_t ruxtajma_address(const uint8_t *table, size_t length,
+uint64_t ruxtajma_address(const uint8_t *table, size_t table_length,
                           uint8_t bus, uint8_t kind, uint64_t address);
 
 enum { RUXTAJMA_NO, RUXTAJMA_YES, RUXTAJMA_UNDECLARED };

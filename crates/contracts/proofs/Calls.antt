@@ -15,18 +15,11 @@ use Rattle.editor.specs.Tested.{editOf}
 use Rattle.editor.proofs.edit.Reads as edit
 use Rattle.exports.specs.Codes.{editedCode}
 use Rattle.exports.proofs.ruxtajma_edit.Reads as ruxtajma-edit
+use Rattle.contracts.proofs.Forms.{Call}
 use Rattle.promises.specs.Runs.{accepted, putIn, partsWith}
 use Rattle.promises.proofs.Runs.{Calls, no-call, call, calls-run, calls-entries, calls-fresh, Good, wantedOf}
 
 -- ---- Calls one after another
-
--- One call that a contract allows: what it was given, what it answered, and what its parameters were at its end.
-pub record Call {K : Type 0} {A R S : K → Type 0} (P : (κ : K) → A κ → R κ → S κ → Type 0) : Type 0 where
-  pub lifetimes : K
-  pub given : A lifetimes
-  pub answer : R lifetimes
-  pub ends : S lifetimes
-  pub allowed : P lifetimes given answer ends
 
 -- Calls that each start on the table that the one before left: from the first table to the last.
 pub data InTurn {C : Type 0} (table left : C → List ℕ) : List ℕ → List C → List ℕ → Type 0 where

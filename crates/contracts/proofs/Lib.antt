@@ -1,3 +1,4 @@
 pub mod Forms
 pub mod Determined
 pub mod Calls
+pub mod Rooms
