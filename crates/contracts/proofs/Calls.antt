@@ -8,7 +8,7 @@ use Rattle.mps.specs.Words.{each}
 use Rattle.mps.specs.Layout.{extendedEnd, baseEntries}
 use Rattle.mps.specs.Writing.{written, writeLeft}
 use Rattle.mps.specs.Edits.{Edit, edited, run, runAnswers}
-use Rattle.mps.specs.declared.Written.the-variants.{Bytes as Written·Bytes}
+use Rattle.mps.specs.declared.Lent.the-variants.{Count}
 use Rattle.mps.specs.declared.Edited.{Edited}
 use Rattle.laws.proofs.Small.{Small}
 use Rattle.editor.specs.Tested.{editOf}
@@ -64,7 +64,7 @@ module _ (t v : List ℕ) (cs : List Edits) (m : InTurn tableOf leftOf t cs v) w
   -- and all of it is what the writer makes afresh of them and of the first one's other parts.
   pub edits-fresh : Good t → Small (wantedOf (each askedOf cs))
       → let p = partsWith t (putIn (baseEntries t) (accepted (each askedOf cs) (each answerOf cs))) in
-      (written p t ≡ Written·Bytes (extendedEnd t)) × (writeLeft p t ≡ v)
+      (written p t ≡ Count (extendedEnd t)) × (writeLeft p t ≡ v)
   edits-fresh = calls-fresh t v (each askedOf cs) (each answerOf cs) (edits-calls m)
 
 -- ---- From C: the same, and each answer's number is that of the run's answer
@@ -109,5 +109,5 @@ module _ (t v : List ℕ) (cs : List EditsForC) (m : InTurn tableForC leftForC t
 
   pub c-edits-fresh : Good t → Small (wantedOf (each askedForC cs))
       → let p = partsWith t (putIn (baseEntries t) (accepted (each askedForC cs) (runAnswers t (each askedForC cs)))) in
-      (written p t ≡ Written·Bytes (extendedEnd t)) × (writeLeft p t ≡ v)
+      (written p t ≡ Count (extendedEnd t)) × (writeLeft p t ≡ v)
   c-edits-fresh g s = rw (calls-run (calls-for-c m) .0) at (calls-fresh t v (each askedForC cs) (each answerForC cs) (calls-for-c m) g s)

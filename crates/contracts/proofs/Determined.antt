@@ -25,10 +25,14 @@ use Rattle.sets.proofs.contains.Reads as sets-contains
 use Rattle.entries.proofs.size.Reads as entries-size
 use Rattle.entries.proofs.count.Reads as entries-count
 use Rattle.entries.proofs.offset.Reads as entries-offset
+use Rattle.lengths.proofs.base.Reads as lengths-base
+use Rattle.lengths.proofs.extended.Reads as lengths-extended
+use Rattle.lengths.proofs.count.Reads as lengths-count
 use Rattle.header.proofs.refusal.Reads as header-refusal
 use Rattle.header.proofs.wrong_extended.Reads as header-wrong-extended
+use Rattle.runs.proofs.size_of.Reads as runs-size-of
 use Rattle.sections.proofs.base.Reads as sections-base
-use Rattle.sections.proofs.extended.Reads as sections-extended
+use Rattle.extension.proofs.extended.Reads as extension-extended
 use Rattle.apics.proofs.claim.Reads as apics-claim
 use Rattle.apics.proofs.wrong_boot.Reads as apics-wrong-boot
 use Rattle.apics.proofs.misplaced.Reads as apics-misplaced
@@ -168,6 +172,17 @@ entries-count-determined κ a x y s t p q = p ∙ sym q
 pub entries-offset-determined : Answers entries-offset.Post
 entries-offset-determined κ a x y s t p q = p ∙ sym q
 
+-- ---- lengths
+
+pub lengths-base-determined : Answers lengths-base.Post
+lengths-base-determined κ a x y s t p q = p ∙ sym q
+
+pub lengths-extended-determined : Answers lengths-extended.Post
+lengths-extended-determined κ a x y s t p q = p ∙ sym q
+
+pub lengths-count-determined : Answers lengths-count.Post
+lengths-count-determined κ a x y s t p q = p ∙ sym q
+
 -- ---- header
 
 pub header-refusal-determined : Answers header-refusal.Post
@@ -176,13 +191,20 @@ header-refusal-determined κ a x y s t p q = p ∙ sym q
 pub header-wrong-extended-determined : Answers header-wrong-extended.Post
 header-wrong-extended-determined κ a x y s t p q = p ∙ sym q
 
+-- ---- runs
+
+pub runs-size-of-determined : Answers runs-size-of.Post
+runs-size-of-determined κ a x y s t p q = p ∙ sym q
+
 -- ---- sections
 
 pub sections-base-determined : Answers sections-base.Post
 sections-base-determined κ a x y s t p q = p ∙ sym q
 
-pub sections-extended-determined : Answers sections-extended.Post
-sections-extended-determined κ a x y s t p q = p ∙ sym q
+-- ---- extension
+
+pub extension-extended-determined : Answers extension-extended.Post
+extension-extended-determined κ a x y s t p q = p ∙ sym q
 
 -- ---- apics
 

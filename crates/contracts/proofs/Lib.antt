@@ -2,3 +2,4 @@ pub mod Forms
 pub mod Determined
 pub mod Calls
 pub mod Rooms
+pub mod FromC

@@ -11,7 +11,7 @@ use Rattle.packs.specs.Packs.{packed, padded, Fit}
 use Rattle.packs.proofs.Laws.{taken-packed}
 use Rattle.mps.specs.Words.{any, part, first}
 use Rattle.mps.specs.Refusals.{Rule, refusal, innerNumber}
-use Rattle.mps.specs.Rooms.{lentRefusal}
+use Rattle.mps.specs.Rooms.{roomRules, lentRefusal}
 use Rattle.mps.specs.Layout.{baseLength, extendedEnd}
 use Rattle.mps.specs.Answers.{judgedNumbers, judgedOf, heldNumbers, lentNumbers, lentOf, partedNumbers, partedOf}
 use Rattle.mps.specs.Answers.{seenNumbers, seenOf, linksOf, editedNumbers, editedOf, foundNumbers, foundOf}
@@ -94,7 +94,7 @@ lent-told zero count h f = answer countRow (count ∷ []) (f refl, omega arith)
 lent-told (suc n) count h f = refused countRow n h
 
 list-below : (d room : List ℕ) → listRefusal d room < 2 ^ 8
-unfolding listRefusal lentRefusal dumpRules pointerRules tableRules any
+unfolding listRefusal lentRefusal roomRules dumpRules pointerRules tableRules any
 list-below d room =
     whether (isDefault d)
     (λ t. rw t (byte-below _ refl))
@@ -110,7 +110,7 @@ first-below zero b h k = k
 first-below (suc a) b h k = h
 
 write-below : (p : Parts) (room : List ℕ) → writeRefusal p room < 2 ^ 8
-unfolding writeRefusal earlyRefusal lentRefusal partRules any
+unfolding writeRefusal earlyRefusal lentRefusal roomRules partRules any
 write-below p room =
     first-below (earlyRefusal p room) (tableRefusal (image p)) (byte-below _ refl) (table-below (image p))
 
@@ -120,7 +120,7 @@ write-told p room = lent-told (writeRefusal p room) (imageSize p) (write-below p
 
 -- From here on it is said of bytes, which is what a call is lent, where a value is as wide as the bytes that it is read from.
 route-below : (q : Question) (t room : List ℕ) → routeRefusal q t room < 2 ^ 8
-unfolding routeRefusal lentRefusal lineRules tableRules any
+unfolding routeRefusal lentRefusal roomRules lineRules tableRules any
 route-below q t room = byte-below _ refl
 
 pub routes-told : (q : Question) (t room : List ℕ) → Bytes t → numbersIn countRow (lentCode (routed q t room)) ≡ lentNumbers (routed q t room)
