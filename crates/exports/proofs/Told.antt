@@ -9,7 +9,7 @@ use lib.ListN.{length}
 use lib.Dec.{eqb, leb}
 use Rattle.packs.specs.Packs.{packed, padded, Fit}
 use Rattle.packs.proofs.Laws.{taken-packed}
-use Rattle.mps.specs.Words.{any, part, first}
+use Rattle.mps.specs.Words.{any, part, first, head}
 use Rattle.mps.specs.Refusals.{Rule, refusal, innerNumber}
 use Rattle.mps.specs.Rooms.{roomRules, lentRefusal}
 use Rattle.mps.specs.Layout.{baseLength, extendedEnd}
@@ -59,6 +59,11 @@ module _ (row values : List ℕ) (n : ℕ) (h : n < 2 ^ 8) where
   told : Fit row values → numbersIn row (coded row (n ∷ values)) ≡ answered n (padded row values)
   unfolding numbersIn
   told f = rw (refusal-in, values-in, taken-packed row values f)
+
+-- A code whose low byte is not 0 is a refusal's.
+pub refused-in : (row numbers : List ℕ) → (refusalIn (coded row numbers) ≡ 0 → ⊥) → head 0 numbers ≡ 0 → ⊥
+refused-in row [] h z = h refl
+refused-in row (n ∷ values) h z = h (rw z (refusal-in row values 0 (omega arith)))
 
 -- A refusal has its number alone, whatever the row.
 refused : (row : List ℕ) (n : ℕ) → suc n < 2 ^ 8 → numbersIn row (coded row (suc n ∷ [])) ≡ suc n ∷ []
