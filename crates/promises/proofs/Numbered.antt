@@ -1,7 +1,7 @@
 -- Demand 1, "Every public call takes any bytes and ends with an answer or a numbered refusal of document 01": of every call
 -- the numbers that it may give; then those of the dump reader, the listing and the writer, given exactly when. That a call
 -- ends at all is proved with its contract, which asks nothing of its caller. Assumes nothing.
-use Prim.Native.Nat.{ℕ, suc, _<_, _^_}
+use Prim.Native.Nat.{ℕ, suc, _/_, _<_, _^_}
 use mathlib.Core.Path.{_≡_, refl, sym, _∙_}
 use mathlib.Core.Bool.{Bool, true, false, not, _||_, or-true, false≢true}
 use mathlib.Core.List.{List, [], _∷_, _++_, append-nil}
@@ -13,18 +13,20 @@ use borrow.Author.Tests.{eq-eqb, eqb-true, eqb-false, le-ltb}
 use Rattle.mps.specs.Words.{text, same, among, any, each, only, first}
 use Rattle.mps.specs.Refusals.{Rule, _when_, refusal, roomNumber}
 use Rattle.mps.specs.Answers.{numberOf, judgedNumbers, examinedNumbers, heldNumbers, lentNumbers, partedNumbers, seenNumbers, editedNumbers}
+use Rattle.mps.specs.Answers.{judgedOf, examinedOf, heldOf, lentOf, partedOf, seenOf, editedOf}
 use Rattle.mps.specs.Rooms.{tooSmall, roomRules, lentRefusal, roomRefusal, fitted}
 use Rattle.mps.specs.Layout.{knownRevision, partMost, headerSize, baseLength, extendedEnd, baseBytes}
 use Rattle.mps.specs.Sums.{sum256}
 use Rattle.mps.specs.Numbers.{bytes}
 use Rattle.mps.specs.Pointer.{isDefault, tableIn}
 use Rattle.mps.specs.Table.{headerCut, wrongSignature, wrongBaseLength, wrongBaseSum, wrongRevision}
-use Rattle.mps.specs.Judge.{tableRules, tableRefusal, pointerRules, dumpRules, dumpRefusal, judged, examined, pointed, held}
+use Rattle.mps.specs.Judge.{tableRules, tableRefusal, pointerRules, dumpRules, dumpRefusal, judged, examined, told, pointed, held}
 use Rattle.mps.specs.Sections.{sections}
 use Rattle.mps.specs.Listing.{listing, listRefusal, listed, programOutput, printed}
 use Rattle.mps.specs.Writing.{Parts, baseSize, header, baseSumOf, extendedSumOf, image, imageSize, partRules, earlyRefusal, writeRefusal, written, parted}
-use Rattle.mps.specs.Routes.{Question, routesOf, lineRules, routeRefusal, routed}
-use Rattle.mps.specs.Addresses.{addressRules, seen}
+use Rattle.mps.specs.Routes.{Question, pairSize, routesOf, lineRules, routeRefusal, routed}
+use Rattle.mps.specs.Addresses.{seenBy, addressRules, seen}
+use Rattle.mps.specs.declared.Parted.the-variants.{Parts as Parted·Parts}
 use Rattle.mps.specs.Edits.{Edit, editRules, editRefusal, edited, innerRefusal}
 use Rattle.laws.proofs.Tests.{whether}
 use Rattle.laws.proofs.Lists.{among-none, among-cases, among-more}
@@ -33,7 +35,7 @@ use Rattle.laws.proofs.Lent.{lent-19, lent-before, lent-of}
 use Rattle.sums.proofs.Laws.{stored-append}
 use Rattle.writer.proofs.Laws.{length-image}
 use Rattle.writer.proofs.Most.{early-fits}
-use Rattle.promises.specs.Numbered.{tableNumbers, pointerNumbers, editNumbers, addressNumbers, routeNumbers, readNumbers, listNumbers, printNumbers, laterNumbers, writeNumbers}
+use Rattle.promises.specs.Numbered.{OneOf, tableNumbers, pointerNumbers, editNumbers, addressNumbers, routeNumbers, readNumbers, listNumbers, printNumbers, laterNumbers, writeNumbers}
 use Rattle.promises.proofs.Given.{Exactly}
 use Rattle.promises.proofs.Answered.{judged-of, examined-of, parted-of, told-of, seen-of, edited-of}
 use Rattle.promises.proofs.Headers.{header-sum, image-front, image-base-length}
@@ -63,6 +65,9 @@ module _ (d : List ℕ) where
 
 -- ---- "ends with an answer or a numbered refusal of document 01"
 
+one-of : {X : Type 0} {of : ℕ → X} {numbers : List ℕ} {x : X} (n : ℕ) → x ≡ of n → among n (0 ∷ numbers) ≡ true → OneOf of numbers x
+one-of n e h = record { number = n; made = e; known = h }
+
 -- Of each call: its answer's number is the call's, which is that of the first row that is so; and it is 0 or one of those
 -- that the paper has the call test.
 module _ (t : List ℕ) where
@@ -74,40 +79,43 @@ module _ (t : List ℕ) where
   unfolding judged
   judge-number = judged-of (tableRefusal t)
 
-  pub judge-numbered : among (numberOf (judgedNumbers (judged t))) (0 ∷ tableNumbers) ≡ true
-  judge-numbered = rw judge-number refusal-numbered
+  pub judge-numbered : OneOf judgedOf tableNumbers (judged t)
+  unfolding judged
+  judge-numbered = one-of (tableRefusal t) refl refusal-numbered
 
   pub examine-number : numberOf (examinedNumbers (examined t)) ≡ tableRefusal t
   unfolding examined
   examine-number = examined-of (sections t) (tableRefusal t)
 
-  pub examine-numbered : among (numberOf (examinedNumbers (examined t))) (0 ∷ tableNumbers) ≡ true
-  examine-numbered = rw examine-number refusal-numbered
+  pub examine-numbered : OneOf (λ n. examinedOf n (sections t)) tableNumbers (examined t)
+  unfolding examined
+  examine-numbered = one-of (tableRefusal t) refl refusal-numbered
 
   pub parts-number : numberOf (partedNumbers (parted t)) ≡ tableRefusal t
   unfolding parted
   parts-number = parted-of (baseLength t) (extendedEnd t) (tableRefusal t)
 
-  pub parts-numbered : among (numberOf (partedNumbers (parted t))) (0 ∷ tableNumbers) ≡ true
-  parts-numbered = rw parts-number refusal-numbered
+  pub parts-numbered : OneOf (λ n. partedOf n (Parted·Parts (baseLength t) (extendedEnd t))) tableNumbers (parted t)
+  unfolding parted
+  parts-numbered = one-of (tableRefusal t) refl refusal-numbered
 
   module _ (bus kind address : ℕ) where
     pub address-number : numberOf (seenNumbers (seen t bus kind address)) ≡ refusal (addressRules t bus kind)
     unfolding seen
     address-number = seen-of t bus kind address (refusal (addressRules t bus kind))
 
-    pub address-numbered : among (numberOf (seenNumbers (seen t bus kind address))) (0 ∷ addressNumbers) ≡ true
-    unfolding addressRules tableRules each
-    address-numbered = rw address-number (refusal-among (addressRules t bus kind))
+    pub address-numbered : OneOf (λ n. seenOf n (seenBy t bus kind address)) addressNumbers (seen t bus kind address)
+    unfolding seen addressRules tableRules each
+    address-numbered = one-of (refusal (addressRules t bus kind)) refl (refusal-among (addressRules t bus kind))
 
   module _ (q : Question) (room : List ℕ) where
     pub routes-number : numberOf (lentNumbers (routed q t room)) ≡ routeRefusal q t room
     unfolding routed
     routes-number = lent-of (routeRefusal q t room) _
 
-    pub routes-numbered : among (numberOf (lentNumbers (routed q t room))) (0 ∷ routeNumbers) ≡ true
-    unfolding routeRefusal lentRefusal roomRules lineRules tableRules each
-    routes-numbered = rw routes-number (refusal-among (roomRules (lineRules q t) (tooSmall (length (routesOf q t)) room)))
+    pub routes-numbered : OneOf (λ n. lentOf n (length (routesOf q t) / pairSize)) routeNumbers (routed q t room)
+    unfolding routed routeRefusal lentRefusal roomRules lineRules tableRules each
+    routes-numbered = one-of (routeRefusal q t room) refl (refusal-among (roomRules (lineRules q t) (tooSmall (length (routesOf q t)) room)))
 
   -- "A refusal returns its number alone, except 23": the inner number goes with it (Edits, inner-number).
   module _ (e : Edit) where
@@ -115,44 +123,47 @@ module _ (t : List ℕ) where
     unfolding edited
     edit-number = edited-of (innerRefusal t e) (editRefusal t e)
 
-    pub edit-numbered : among (numberOf (editedNumbers (edited t e))) (0 ∷ editNumbers) ≡ true
-    unfolding editRefusal editRules tableRules each
-    edit-numbered = rw edit-number (refusal-among (editRules t e))
+    pub edit-numbered : OneOf (λ n. editedOf n (innerRefusal t e)) editNumbers (edited t e)
+    unfolding edited editRefusal editRules tableRules each
+    edit-numbered = one-of (editRefusal t e) refl (refusal-among (editRules t e))
 
 module _ (d : List ℕ) where
   pub find-number : numberOf (heldNumbers (pointed d)) ≡ refusal (pointerRules d)
   unfolding pointed
   find-number = told-of d (refusal (pointerRules d))
 
-  pub find-numbered : among (numberOf (heldNumbers (pointed d))) (0 ∷ pointerNumbers) ≡ true
-  unfolding pointerRules each
-  find-numbered = rw find-number (refusal-among (pointerRules d))
+  pub find-numbered : OneOf (λ n. heldOf n (told d)) pointerNumbers (pointed d)
+  unfolding pointed pointerRules each
+  find-numbered = one-of (refusal (pointerRules d)) refl (refusal-among (pointerRules d))
 
   pub read-number : numberOf (heldNumbers (held d)) ≡ dumpRefusal d
   unfolding held
   read-number = told-of d (dumpRefusal d)
 
-  pub read-numbered : among (numberOf (heldNumbers (held d))) (0 ∷ readNumbers) ≡ true
+  read-among : among (dumpRefusal d) (0 ∷ readNumbers) ≡ true
   unfolding dumpRefusal dumpRules pointerRules each
-  read-numbered =
-      rw (read-number, ← append-nil (only (not (isDefault d)) (tableRules (tableIn d)))) (dump-among d (not (isDefault d)) [])
+  read-among = rw (← append-nil (only (not (isDefault d)) (tableRules (tableIn d)))) (dump-among d (not (isDefault d)) [])
+
+  pub read-numbered : OneOf (λ n. heldOf n (told d)) readNumbers (held d)
+  unfolding held
+  read-numbered = one-of (dumpRefusal d) refl read-among
 
   module _ (room : List ℕ) where
     pub list-number : numberOf (lentNumbers (listed d room)) ≡ listRefusal d room
     unfolding listed
     list-number = lent-of (listRefusal d room) _
 
-    pub list-numbered : among (numberOf (lentNumbers (listed d room))) (0 ∷ listNumbers) ≡ true
-    unfolding listRefusal lentRefusal roomRules dumpRules pointerRules each
-    list-numbered = rw list-number (dump-among d (not (isDefault d)) (roomNumber when tooSmall (length (listing d)) room ∷ []))
+    pub list-numbered : OneOf (λ n. lentOf n (length (listing d))) listNumbers (listed d room)
+    unfolding listed listRefusal lentRefusal roomRules dumpRules pointerRules each
+    list-numbered = one-of (listRefusal d room) refl (dump-among d (not (isDefault d)) (roomNumber when tooSmall (length (listing d)) room ∷ []))
 
     pub print-number : numberOf (lentNumbers (printed d room)) ≡ roomRefusal (programOutput d) room
     unfolding printed fitted
     print-number = lent-of (roomRefusal (programOutput d) room) _
 
-    pub print-numbered : among (numberOf (lentNumbers (printed d room))) (0 ∷ printNumbers) ≡ true
-    unfolding roomRefusal lentRefusal roomRules each
-    print-numbered = rw print-number (refusal-among (roomNumber when tooSmall (length (programOutput d)) room ∷ []))
+    pub print-numbered : OneOf (λ n. lentOf n (length (programOutput d))) printNumbers (printed d room)
+    unfolding printed fitted roomRefusal lentRefusal roomRules each
+    print-numbered = one-of (roomRefusal (programOutput d) room) refl (refusal-among (roomNumber when tooSmall (length (programOutput d)) room ∷ []))
 
 -- An image whose parts fit passes 5 to 9: its length, its signature, its base length, its sum and its revision are made so.
 module _ (p : Parts) (room : List ℕ) (early : earlyRefusal p room ≡ 0) where
@@ -204,17 +215,20 @@ module _ (p : Parts) (room : List ℕ) where
   unfolding earlyRefusal lentRefusal roomRules partRules each
   early-among = refusal-among (roomRules (partRules p) (tooSmall (imageSize p) room))
 
-  pub write-numbered : among (numberOf (lentNumbers (written p room))) (0 ∷ writeNumbers) ≡ true
+  write-among : among (writeRefusal p room) (0 ∷ writeNumbers) ≡ true
   unfolding writeRefusal each tableRules
-  write-numbered =
-      rw write-number
-      (whether (eqb (earlyRefusal p room) 0)
+  write-among =
+      whether (eqb (earlyRefusal p room) 0)
       (λ z.
       let none = eqb-true (earlyRefusal p room) 0 z in
       rw (none, image-number p room none) (among-more _ (0 ∷ []) (7 ∷ 13 ∷ 19 ∷ []) laterNumbers (refusal-among (drop 5 (tableRules (image p))))))
       (λ z.
       rw (first-some (earlyRefusal p room) (tableRefusal (image p)) (eqb-false (earlyRefusal p room) 0 z))
-      (among-more _ (0 ∷ 7 ∷ 13 ∷ 19 ∷ []) laterNumbers [] early-among)))
+      (among-more _ (0 ∷ 7 ∷ 13 ∷ 19 ∷ []) laterNumbers [] early-among))
+
+  pub write-numbered : OneOf (λ n. lentOf n (imageSize p)) writeNumbers (written p room)
+  unfolding written
+  write-numbered = one-of (writeRefusal p room) refl write-among
 
 -- ---- The numbers of the listing and the writer, given exactly when
 

@@ -1,7 +1,17 @@
 -- Demand 1: a call "ends with an answer or a numbered refusal of document 01". Which numbers each call may give, as the
 -- paper's paragraph behind its table says.
 use Prim.Native.Nat.{ℕ}
+use mathlib.Core.Path.{_≡_}
+use mathlib.Core.Bool.{true}
 use mathlib.Core.List.{List, [], _∷_, _++_}
+use Rattle.mps.specs.Words.{among}
+
+-- An answer is one of a number that is 0 or among those of a list, where `of` makes the answer of a call's number: of 0 what is
+-- answered, of any other the refusal with it. So no refusal has the number 0.
+pub record OneOf {X : Type 0} (of : ℕ → X) (numbers : List ℕ) (answer : X) : Type 0 where
+  pub number : ℕ
+  pub made : answer ≡ of number
+  pub known : among number (0 ∷ numbers) ≡ true
 
 -- "A bare table in a lent buffer is judged as one region holding the buffer: numbers 5 to 18."
 abbrev pub tableNumbers : List ℕ
