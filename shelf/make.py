@@ -2,21 +2,20 @@
 """Writes the made dumps of the shelf, `made-*.dump`, and beside each the text that document 01 gives for it.
 
     python3 make.py            writes them, the same bytes on every run
-    python3 make.py --check    compares every text of the shelf with crates/listings/lister.py, and writes nothing
+    python3 make.py --check    says which of them stand otherwise, and writes nothing
 
-The text of a made dump stands by hand beside its parts, as in crates/listings; a line that comes many times is written
-once. They are here and not there because of their length.
+The text of a made dump stands by hand beside its parts, as in crates/answers/vectors, whose parts serve here too; a line that
+comes many times is written once. They are here and not there because of their length.
 """
-import glob
 import os
+import runpy
 import sys
 
 sys.dont_write_bytecode = True
 here = os.path.dirname(os.path.abspath(__file__))
-sys.path += [os.path.join(here, "..", "crates", crate) for crate in ("verdicts", "listings")]
-from lister import listing
-from lines import BENCH
-from parts import BOARD, CPU, bus, cpu, dump, line, link, pointer, put, rom, table
+PARTS = runpy.run_path(os.path.join(here, "..", "crates", "answers", "requests"))["PARTS"]
+BOARD, CPU, bus, cpu, dump, line, link, pointer, put, rom, table = (
+    PARTS[name] for name in "BOARD CPU bus cpu dump line link pointer put rom table".split())
 
 FALSE = put(pointer(0, 7), 15, 1)
 BOARD_LINES = """\
@@ -60,7 +59,7 @@ def circle():
 
 
 MADE = {
-    "made-bench-board": (BENCH, """\
+    "made-bench-board": (rom(pointer(0xF0010), table(BOARD)), """\
 pointer 000F0000 imcr 0
 table 000F0010 96 0 5
 """ + BOARD_LINES),
@@ -96,19 +95,22 @@ def sizes():
     assert len(MADE["made-longest"][1]) == 38213
 
 
-def write():
+def files():
     for name, (bytes_, text) in MADE.items():
-        for suffix, content in ((".dump", bytes_), (".txt", text.encode())):
-            with open(os.path.join(here, name + suffix), "wb") as out:
-                out.write(content)
+        yield os.path.join(here, name + ".dump"), bytes_
+        yield os.path.join(here, name + ".txt"), text.encode()
+
+
+def write():
+    for path, content in files():
+        with open(path, "wb") as out:
+            out.write(content)
 
 
 def check():
-    files = sorted(glob.glob(os.path.join(here, "*.dump")))
-    bad = [f for f in files if listing(open(f, "rb").read()) != open(f[:-5] + ".txt", "rb").read()]
-    for f in bad:
-        print("the lister differs: " + os.path.basename(f))
-    print("%d dumps, %d where the lister differs" % (len(files), len(bad)))
+    bad = [path for path, content in files() if open(path, "rb").read() != content]
+    for path in bad:
+        print("not as it would be made: " + os.path.basename(path))
     return bad
 
 
