@@ -34,6 +34,7 @@ module _ (t u : List ℕ) (s : Sound t) (long : extendedEnd t ≤ length u) (sam
   agree-base = agree-le 2 4 (omega arith)
 
   agree-extended : extendedLength u ≡ extendedLength t
+  unfolding extendedLength
   agree-extended = agree-le 2 40 (omega arith)
 
   pub agree-end : extendedEnd u ≡ extendedEnd t

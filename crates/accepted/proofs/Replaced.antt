@@ -77,6 +77,7 @@ module _ (t : List ℕ) (e : Edit) (s : Sound t) (h : Shaped t e) where
   replaced-base = sealed-base stored ∙ le-before t at (e .wanted) 2 4 (omega (arith, there .low))
 
   replaced-extended-length : extendedLength (editedTable t e) ≡ extendedLength t
+  unfolding extendedLength
   replaced-extended-length = header-le 2 40 (omega arith) (omega arith)
 
   pub replaced-end : extendedEnd (editedTable t e) ≡ extendedEnd t

@@ -3,7 +3,6 @@ use crate::end;
 use libc::STDIN_FILENO;
 ghost use mathlib.Core.Path.{_≡_};
 ghost use Prim.Native.Nat.{_+_, _*_, _<_, _^_};
-ghost use Rattle.mps.specs.Numbers.{le};
 ghost use Rattle.answers.specs.Wire.{lengthOf, middleOf};
 
 // Behind the kind stand eight numbers, of eight bytes each.

@@ -7,7 +7,7 @@ use Rattle.mps.specs.Refusals.{refusal}
 use Rattle.mps.specs.Rooms.{tooSmall, roomRules, lentRefusal, lentLeft, roomRefusal, fitted, fitLeft}
 use Rattle.mps.specs.Sums.{total, sum256, toStore}
 use Rattle.mps.specs.Numbers.{le, bytes}
-use Rattle.mps.specs.Layout.{knownRevision, baseEntryLength, baseEntries, extendedEntries, ownLength}
+use Rattle.mps.specs.Layout.{knownRevision, extendedLength, baseEntryLength, baseEntries, extendedEntries, ownLength}
 use Rattle.mps.specs.Buses.{busNames, isBusName}
 use Rattle.mps.specs.Ranges.{isa, vga, rangesAt, inList, printedIsa, printedVga}
 use Rattle.mps.specs.Dump.{regionsFrom, regions, kindRule, soundRegion, share, overlap, kindTwice, endsWithLast, soundDump, holds, holding}
@@ -44,7 +44,7 @@ unfolding le bytes
 ofNumbers = 0
 
 ofLayout : ℕ
-unfolding knownRevision baseEntryLength baseEntries extendedEntries ownLength
+unfolding knownRevision extendedLength baseEntryLength baseEntries extendedEntries ownLength
 ofLayout = 0
 
 ofBuses : ℕ

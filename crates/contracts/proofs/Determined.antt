@@ -3,7 +3,7 @@
 -- that it allows are equal (Forms). Assumes nothing.
 use mathlib.Core.Path.{sym, _∙_}
 use denote.Ref.{now}
-use Rattle.contracts.proofs.Forms.{Answers, Leaves, Determines, Decides, both, both-are}
+use Rattle.contracts.proofs.Forms.{Answers, Leaves, Determines, Decides, both-are}
 use Rattle.sums.proofs.sum.Reads as sums-sum
 use Rattle.sums.proofs.to_store.Reads as sums-to-store
 use Rattle.numbers.proofs.byte.Reads as numbers-byte

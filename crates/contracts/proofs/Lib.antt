@@ -3,3 +3,4 @@ pub mod Determined
 pub mod Calls
 pub mod Rooms
 pub mod FromC
+pub mod TwoRooms

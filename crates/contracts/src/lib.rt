@@ -2,13 +2,18 @@
 // every crate with a public function.
 //
 // proofs/ has that every public contract determines its answer and what it leaves (Forms says what that is; Determined has the
-// list, written by .ci/lists), and that calls of the editor made one after another, from Rattle or from C, are a run of the
-// definition, so that demand 3's promises of a run hold of them (Calls).
+// list, written by .ci/lists), that calls of the editor made one after another, from Rattle or from C, are a run of the
+// definition, so that demand 3's promises of a run hold of them (Calls), and what a refusal leaves as C sees it (FromC, and
+// Rooms of the writer).
 //
-// The three functions below are called by none. Their contracts say what a call's types give, whatever its arguments are:
-// where a promise supposes bytes, or header fields of their widths, who makes the call has no more to show. The reading of a
-// contract alone does not say it: what a reference holds is known to the code that is lent it.
+// The functions below are called by none. The contracts of the first three say what a call's types give, whatever its arguments
+// are: where a promise supposes bytes, or header fields of their widths, who makes the call has no more to show. The reading of
+// a contract alone does not say it: what a reference holds is known to the code that is lent it. The last one is lent two
+// rooms: TwoRooms has of it what Determined will have of a public call that is.
 use mps::Fields;
+ghost use mathlib.Core.Path.{_≡_};
+ghost use lib.ListN.{replicate};
+ghost use lib.Seq.{sets};
 ghost use Rattle.laws.proofs.Small.{Bytes};
 ghost use Rattle.writer.specs.Laid.{partsGiven};
 ghost use Rattle.promises.proofs.Again.{Proper};
@@ -30,4 +35,12 @@ fn handed(fields: Fields, base: &[u8], extended: &[u8]) -> u8
     ensures { λ _. ⌜ Proper (partsGiven fields (now (base .entry)) (now (extended .entry))) ⌝ }
 {
     numbers::byte(base, 0)
+}
+
+fn two_rooms(table: &mut [u8], room: &mut [u8])
+    ensures { λ _. ⌜ now (table .exit) ≡ sets (now (table .entry)) 0 (replicate 1 0) ⌝ }
+    ensures { λ _. ⌜ now (room .exit) ≡ sets (now (room .entry)) 0 (replicate 1 0) ⌝ }
+{
+    slices::clear(table, 1);
+    slices::clear(room, 1);
 }

@@ -1,6 +1,6 @@
 -- Nothing is lost on the way to C: of every answer that a call can give, what C takes out of its code are the numbers that
 -- mps's specs/Answers.antt has for it: the refusal's, the inner one, each value. Assumes nothing.
-use Prim.Native.Nat.{ℕ, zero, suc, _+_, _-_, _/_, _^_, _<_, _≤_}
+use Prim.Native.Nat.{ℕ, zero, suc, _+_, _-_, _/_, _^_, _<_}
 use mathlib.Core.Path.{_≡_, refl, sym, _∙_}
 use mathlib.Core.Bool.{false}
 use mathlib.Core.List.{List, [], _∷_}

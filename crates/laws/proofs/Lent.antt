@@ -8,7 +8,7 @@ use native.Mathlib.Omega.{arith}
 use lib.ListN.{length, getD}
 use lib.Seq.{sets}
 use lib.Dec.{eqb}
-use borrow.Author.Tests.{lt-ltb, le-ltb, ltb-false, ne-eqb}
+use borrow.Author.Tests.{lt-ltb, le-ltb, ne-eqb}
 use Rattle.mps.specs.Words.{among, any, each, put, first}
 use Rattle.mps.specs.Refusals.{Rule, _when_, refusal, roomNumber}
 use Rattle.mps.specs.Answers.{numberOf, lentNumbers, lentOf}
@@ -21,7 +21,7 @@ use Rattle.laws.proofs.Stores.{sets-at-start}
 -- ---- The number
 
 module _ (rows : List Rule) (some : among 0 (each number rows) ≡ false) where
-  pub lent-number : (small : Bool) → lentRefusal rows small ≡ first (refusal rows) (refusal (roomNumber when small ∷ []))
+  lent-number : (small : Bool) → lentRefusal rows small ≡ first (refusal rows) (refusal (roomNumber when small ∷ []))
   unfolding lentRefusal roomRules
   lent-number small = refusal-append rows (roomNumber when small ∷ []) some
 
@@ -34,7 +34,7 @@ module _ (rows : List Rule) (some : among 0 (each number rows) ≡ false) where
       some-first (suc k) g = refl
 
   -- Where they refuse nothing, the room alone decides.
-  pub lent-late : (small : Bool) → refusal rows ≡ 0 → lentRefusal rows small ≡ lentRefusal [] small
+  lent-late : (small : Bool) → refusal rows ≡ 0 → lentRefusal rows small ≡ lentRefusal [] small
   unfolding lentRefusal roomRules
   lent-late small e = lent-number small ∙ rw e
 
@@ -74,10 +74,6 @@ pub lent-refused : (n count : ℕ) → (n ≡ 0 → ⊥) → Refused n ≡ lentO
 lent-refused zero count z = absurd (z refl)
 lent-refused (suc n) count z = refl
 
--- What is refused leaves the room as it was,
-pub lent-kept : (n count : ℕ) (answer room : List ℕ) → (numberOf (lentNumbers (lentOf n count)) ≡ 0 → ⊥) → lentLeft n answer room ≡ room
-lent-kept n count answer room z = left-kept n answer room (λ e. z (lent-of n count ∙ e))
-
 -- And back: a count is the answer's, and a refusal's number the call's.
 valueOf : Lent → ℕ
 valueOf r = getD (lentNumbers r) 1 0
@@ -94,6 +90,10 @@ pub refused-given : (m count : ℕ) {n : ℕ} → Refused n ≡ lentOf m count �
 unfolding values
 refused-given zero count e = absurd (omega (arith, ap values e))
 refused-given (suc m) count e = let k = ap (λ (r : Lent). numberOf (lentNumbers r)) e in (omega (arith, k), omega (arith, k))
+
+-- What is refused leaves the room as it was,
+pub lent-kept : (n count : ℕ) (answer room : List ℕ) → (numberOf (lentNumbers (lentOf n count)) ≡ 0 → ⊥) → lentLeft n answer room ≡ room
+lent-kept n count answer room z = left-kept n answer room (λ e. z (lent-of n count ∙ e))
 
 -- and what is counted stands at its first byte.
 pub lent-shown : (m count : ℕ) (answer room : List ℕ) {n : ℕ} → lentOf m count ≡ Count n → (n ≡ count) × (lentLeft m answer room ≡ put answer room)

@@ -164,7 +164,8 @@ entryCount t = le 2 t 34
 abbrev pub localApic : List ℕ → ℕ
 localApic t = le 4 t 36
 
-abbrev pub extendedLength : List ℕ → ℕ
+-- Shut, as revision 1 will have none: proofs go by laws about it.
+unfoldable pub extendedLength : List ℕ → ℕ
 extendedLength t = le 2 t 40
 
 abbrev pub extendedChecksum : List ℕ → ℕ

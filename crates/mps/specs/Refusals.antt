@@ -8,7 +8,7 @@ infix 70 _when_
 pub data Rule : Type 0 where
   _when_ : ℕ → Bool → Rule
 
--- A number stands in the row that gives it, as in the paper's table. These are given in more than one place:
+-- A number stands in the row that gives it, as in the paper's table. These are given or asked for in more than one place:
 
 -- "base length under 44, over 4,096 or past the region", and the writer's "if the base would pass 4,096"
 abbrev pub baseNumber : ℕ

@@ -1,6 +1,7 @@
 -- One answer in a lent room: this answer, or this number; and what the room then holds. Every call that is lent a room says
 -- its answer so. Document 01: 19, "answer longer than the lent room"; "Answers and images start at their room's first byte;
--- what lies past them stays." Demand 1: "A refusal writes nothing into lent memory".
+-- what lies past them stays." Demand 1: "A refusal writes nothing into lent memory, with one exception": the writer is refused
+-- here by what it tests before it writes, and a finished image that is refused is zeros (Writing, `finished`).
 use Prim.Native.Nat.{ℕ}
 use mathlib.Core.Bool.{Bool, cond}
 use mathlib.Core.List.{List, [], _∷_, _++_}

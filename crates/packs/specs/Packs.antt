@@ -26,7 +26,3 @@ abbrev pub padded : List ℕ → List ℕ → List ℕ
 padded [] xs = []
 padded (w ∷ ws) [] = 0 ∷ padded ws []
 padded (w ∷ ws) (x ∷ xs) = x ∷ padded ws xs
-
-abbrev pub total : List ℕ → ℕ
-total [] = 0
-total (w ∷ ws) = w + total ws

@@ -24,7 +24,7 @@ use Rattle.numbers.proofs.Laws.{le-below}
 use Rattle.accepted.proofs.Sound.{Sound, sound}
 use Rattle.accepted.proofs.Agree.{agree-refusal, agree-parts}
 use Rattle.writer.proofs.Calls.{write-none}
-use Rattle.laws.proofs.Lent.{left-put, count-given}
+use Rattle.laws.proofs.Lent.{left-put}
 use Rattle.writer.proofs.Most.{Fits, early-fits}
 use Rattle.writer.proofs.Reading.{fields-inside}
 use Rattle.promises.proofs.Headers.{image-reads, image-base, image-extended, base-again, extended-again, header-again, base-sum-again, extended-sum-again}

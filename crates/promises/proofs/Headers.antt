@@ -33,7 +33,7 @@ pub record Reads (p : Parts) (s : List ℕ) : Type 0 where
   pub reserved : reserved43 s ≡ p .fields .reserved
 
 pub header-reads : (p : Parts) (a b : ℕ) (s : List ℕ) → take headerSize s ≡ header p a b → Reads p s
-unfolding header text
+unfolding header text extendedLength
 header-reads p a b s e =
     let f4 = pieces-split s 0 4 40 (text "PCMP") _ refl e in
     let f6 = pieces-split s 4 2 38 (bytes 2 _) _ (length-bytes 2 _) (f4 .1) in
@@ -128,7 +128,7 @@ module _ (t : List ℕ) (b : Bytes t) (s : Sound t) where
       sym (exactly-all k (take k (drop at t)) (length-take-le k (drop at t) (omega (arith, length-drop at t))))
 
   pub header-again : take headerSize t ≡ header (partsOf t) (byte t checksumAt) (extendedChecksum t)
-  unfolding header text partsOf fieldsOf
+  unfolding header text partsOf fieldsOf extendedLength
   header-again =
       let l = s .long in
       pieces-join t 0 4 40 (text "PCMP") _ (s .signed)

@@ -35,6 +35,7 @@ use Rattle.laws.proofs.Lists.{any-keep}
 use Rattle.laws.proofs.Joined.{joined-append, joined-same, joined-each}
 use Rattle.laws.proofs.Small.{Bytes, Small, small-none, small-more, small-cut, bytes-part, any-or}
 use Rattle.numbers.proofs.Laws.{le-below}
+use Rattle.lengths.proofs.Laws.{extended-below}
 use Rattle.accepted.proofs.Sound.{sound, sound-rest}
 use Rattle.dump.proofs.Laws.{held-table, held-default, held-number}
 use Rattle.dump.proofs.Narrow.{default-narrow, table-narrow}
@@ -338,7 +339,7 @@ table-readable p b a t small r h k l =
       word-readable (text "table") refl,
       address-readable 8 a (omega arith) l,
       number-readable (baseLength t) (le-below 2 t 4 small),
-      number-readable (extendedLength t) (le-below 2 t 40 small),
+      number-readable (extendedLength t) (extended-below t small),
       number-readable (entryCount t) (le-below 2 t 34 small),
     )
     (every-append _ (each baseFields es) _ base (every-append _ (each extendedFields (extendedEntries t)) _ extended end))

@@ -42,7 +42,7 @@ use Rattle.promises.proofs.Headers.{header-sum, image-front, image-base
 
 -- ---- The number of the first row that is so is a row's number, or 0
 
-refusal-among : (rows : List Rule) → among (refusal rows) (0 ∷ each number rows) ≡ true
+pub refusal-among : (rows : List Rule) → among (refusal rows) (0 ∷ each number rows) ≡ true
 unfolding refusal among each
 refusal-among [] = refl
 refusal-among (n when true ∷ rows) = rw (eq-eqb n n refl, or-true)
@@ -65,8 +65,8 @@ module _ (d : List ℕ) where
 
 -- ---- "ends with an answer or a numbered refusal of document 01"
 
-one-of : {X : Type 0} {of : ℕ → X} {numbers : List ℕ} {x : X} (n : ℕ) → x ≡ of n → among n (0 ∷ numbers) ≡ true → OneOf of numbers x
-one-of n e h = record { number = n; made = e; known = h }
+pub one-of : {X : Type 0} {of : ℕ → X} {numbers : List ℕ} {x : X} (n : ℕ) → x ≡ of n → among n (0 ∷ numbers) ≡ true → OneOf of n numbers x
+one-of n e h = record { made = e; known = h }
 
 -- Of each call: its answer's number is the call's, which is that of the first row that is so; and it is 0 or one of those
 -- that the paper has the call test.
@@ -79,7 +79,7 @@ module _ (t : List ℕ) where
   unfolding judged
   judge-number = judged-of (tableRefusal t)
 
-  pub judge-numbered : OneOf judgedOf tableNumbers (judged t)
+  pub judge-numbered : OneOf judgedOf (tableRefusal t) tableNumbers (judged t)
   unfolding judged
   judge-numbered = one-of (tableRefusal t) refl refusal-numbered
 
@@ -87,7 +87,7 @@ module _ (t : List ℕ) where
   unfolding examined
   examine-number = examined-of (sections t) (tableRefusal t)
 
-  pub examine-numbered : OneOf (λ n. examinedOf n (sections t)) tableNumbers (examined t)
+  pub examine-numbered : OneOf (λ n. examinedOf n (sections t)) (tableRefusal t) tableNumbers (examined t)
   unfolding examined
   examine-numbered = one-of (tableRefusal t) refl refusal-numbered
 
@@ -95,7 +95,7 @@ module _ (t : List ℕ) where
   unfolding parted
   parts-number = parted-of (baseLength t) (extendedEnd t) (tableRefusal t)
 
-  pub parts-numbered : OneOf (λ n. partedOf n (Parted·Parts (baseLength t) (extendedEnd t))) tableNumbers (parted t)
+  pub parts-numbered : OneOf (λ n. partedOf n (Parted·Parts (baseLength t) (extendedEnd t))) (tableRefusal t) tableNumbers (parted t)
   unfolding parted
   parts-numbered = one-of (tableRefusal t) refl refusal-numbered
 
@@ -104,7 +104,7 @@ module _ (t : List ℕ) where
     unfolding seen
     address-number = seen-of t bus kind address (refusal (addressRules t bus kind))
 
-    pub address-numbered : OneOf (λ n. seenOf n (seenBy t bus kind address)) addressNumbers (seen t bus kind address)
+    pub address-numbered : OneOf (λ n. seenOf n (seenBy t bus kind address)) (refusal (addressRules t bus kind)) addressNumbers (seen t bus kind address)
     unfolding seen addressRules tableRules each
     address-numbered = one-of (refusal (addressRules t bus kind)) refl (refusal-among (addressRules t bus kind))
 
@@ -113,7 +113,7 @@ module _ (t : List ℕ) where
     unfolding routed
     routes-number = lent-of (routeRefusal q t room) _
 
-    pub routes-numbered : OneOf (λ n. lentOf n (length (routesOf q t) / pairSize)) routeNumbers (routed q t room)
+    pub routes-numbered : OneOf (λ n. lentOf n (length (routesOf q t) / pairSize)) (routeRefusal q t room) routeNumbers (routed q t room)
     unfolding routed routeRefusal lentRefusal roomRules lineRules tableRules each
     routes-numbered = one-of (routeRefusal q t room) refl (refusal-among (roomRules (lineRules q t) (tooSmall (length (routesOf q t)) room)))
 
@@ -123,7 +123,7 @@ module _ (t : List ℕ) where
     unfolding edited
     edit-number = edited-of (innerRefusal t e) (editRefusal t e)
 
-    pub edit-numbered : OneOf (λ n. editedOf n (innerRefusal t e)) editNumbers (edited t e)
+    pub edit-numbered : OneOf (λ n. editedOf n (innerRefusal t e)) (editRefusal t e) editNumbers (edited t e)
     unfolding edited editRefusal editRules tableRules each
     edit-numbered = one-of (editRefusal t e) refl (refusal-among (editRules t e))
 
@@ -132,7 +132,7 @@ module _ (d : List ℕ) where
   unfolding pointed
   find-number = told-of d (refusal (pointerRules d))
 
-  pub find-numbered : OneOf (λ n. heldOf n (told d)) pointerNumbers (pointed d)
+  pub find-numbered : OneOf (λ n. heldOf n (told d)) (refusal (pointerRules d)) pointerNumbers (pointed d)
   unfolding pointed pointerRules each
   find-numbered = one-of (refusal (pointerRules d)) refl (refusal-among (pointerRules d))
 
@@ -144,7 +144,7 @@ module _ (d : List ℕ) where
   unfolding dumpRefusal dumpRules pointerRules each
   read-among = rw (← append-nil (only (not (isDefault d)) (tableRules (tableIn d)))) (dump-among d (not (isDefault d)) [])
 
-  pub read-numbered : OneOf (λ n. heldOf n (told d)) readNumbers (held d)
+  pub read-numbered : OneOf (λ n. heldOf n (told d)) (dumpRefusal d) readNumbers (held d)
   unfolding held
   read-numbered = one-of (dumpRefusal d) refl read-among
 
@@ -153,7 +153,7 @@ module _ (d : List ℕ) where
     unfolding listed
     list-number = lent-of (listRefusal d room) _
 
-    pub list-numbered : OneOf (λ n. lentOf n (length (listing d))) listNumbers (listed d room)
+    pub list-numbered : OneOf (λ n. lentOf n (length (listing d))) (listRefusal d room) listNumbers (listed d room)
     unfolding listed listRefusal lentRefusal roomRules dumpRules pointerRules each
     list-numbered = one-of (listRefusal d room) refl (dump-among d (not (isDefault d)) (roomNumber when tooSmall (length (listing d)) room ∷ []))
 
@@ -161,7 +161,7 @@ module _ (d : List ℕ) where
     unfolding printed fitted
     print-number = lent-of (roomRefusal (programOutput d) room) _
 
-    pub print-numbered : OneOf (λ n. lentOf n (length (programOutput d))) printNumbers (printed d room)
+    pub print-numbered : OneOf (λ n. lentOf n (length (programOutput d))) (roomRefusal (programOutput d) room) printNumbers (printed d room)
     unfolding printed fitted roomRefusal lentRefusal roomRules each
     print-numbered = one-of (roomRefusal (programOutput d) room) refl (refusal-among (roomNumber when tooSmall (length (programOutput d)) room ∷ []))
 
@@ -226,7 +226,7 @@ module _ (p : Parts) (room : List ℕ) where
       rw (first-some (earlyRefusal p room) (tableRefusal (image p)) (eqb-false (earlyRefusal p room) 0 z))
       (among-more _ (0 ∷ 7 ∷ 13 ∷ 19 ∷ []) laterNumbers [] early-among))
 
-  pub write-numbered : OneOf (λ n. lentOf n (imageSize p)) writeNumbers (written p room)
+  pub write-numbered : OneOf (λ n. lentOf n (imageSize p)) (writeRefusal p room) writeNumbers (written p room)
   unfolding written
   write-numbered = one-of (writeRefusal p room) refl write-among
 

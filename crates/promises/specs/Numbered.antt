@@ -6,10 +6,9 @@ use mathlib.Core.Bool.{true}
 use mathlib.Core.List.{List, [], _∷_, _++_}
 use Rattle.mps.specs.Words.{among}
 
--- An answer is one of a number that is 0 or among those of a list, where `of` makes the answer of a call's number: of 0 what is
+-- An answer is made of the call's number, which is 0 or among those of a list. `of` makes the answer of a number: of 0 what is
 -- answered, of any other the refusal with it. So no refusal has the number 0.
-pub record OneOf {X : Type 0} (of : ℕ → X) (numbers : List ℕ) (answer : X) : Type 0 where
-  pub number : ℕ
+pub record OneOf {X : Type 0} (of : ℕ → X) (number : ℕ) (numbers : List ℕ) (answer : X) : Type 0 where
   pub made : answer ≡ of number
   pub known : among number (0 ∷ numbers) ≡ true
 

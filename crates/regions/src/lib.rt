@@ -13,7 +13,7 @@ use mps::layout;
 ghost use mathlib.Core.Path.{_≡_};
 ghost use Prim.Native.Nat.{_+_, _<_};
 ghost use mathlib.Core.Bool.{_&&_};
-ghost use lib.ListN.{take, drop};
+ghost use lib.ListN.{take};
 ghost use lib.Dec.{leb, ltb};
 ghost use Rattle.mps.specs.Dump.{holding as holdingOf};
 ghost use Rattle.regions.specs.Regions.{firstOfKind, placeHolding};

@@ -6,7 +6,7 @@ use native.Mathlib.Omega.{arith}
 use native.Mathlib.Nat.{zero-add}
 use lib.ListN.{length}
 use Rattle.mps.specs.Words.{keep, part}
-use Rattle.mps.specs.Layout.{Entry, ofType, baseEntryLength}
+use Rattle.mps.specs.Layout.{ofType, baseEntryLength}
 use Rattle.mps.specs.Table.{walkFrom}
 use Rattle.mps.specs.Sections.{span, rows}
 use Rattle.laws.proofs.Cut.{cut-done}

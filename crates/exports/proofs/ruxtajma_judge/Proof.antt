@@ -1,5 +1,4 @@
 -- The number of the judge's refusal.
-use native.Mathlib.Omega.{arith}
 use borrow.Author.Needs.{needs}
 use Rattle.exports.proofs.Laws.{judge-is}
 use Rattle.exports.proofs.ruxtajma_judge.Statement.{statement}
