@@ -199,6 +199,27 @@ static bool f13_below_known(struct rng *r, struct builder *b, const struct fault
     return put_in(b, true, place_of(r, b, moved[0]), moved, size + 2);
 }
 
+/* Moved right behind an entry of a higher type, which is known too. */
+static bool f13_known_descending(struct rng *r, struct builder *b,
+                                 const struct fault *f)
+{
+    uint8_t *high = pick(r, b, (uint8_t)rng_range(r, 129, 130), any);
+    uint8_t moved[255];
+
+    if (high == NULL)
+        return false;
+    uint8_t *e = pick(r, b, (uint8_t)rng_range(r, 128, high[0] - 1u), any);
+    uint8_t *end = high + high[1];
+    if (e == NULL || e + e[1] > high || end > b->ext + b->ext_len)
+        return false;
+
+    size_t size = e[1];
+    memcpy(moved, e, size);
+    memmove(e, e + size, (size_t)(end - (e + size)));
+    memcpy(end - size, moved, size);
+    return true;
+}
+
 /* A listed bus and fields that are sound whatever the length. */
 static bool f13_other_length(struct rng *r, struct builder *b,
                              const struct fault *f)
@@ -238,6 +259,7 @@ const struct fault extended_faults[] = {
     { 13, "type under 128", .entries = f13_type_under_128 },
     { 13, "unknown types descending", .entries = f13_below_unknown },
     { 13, "known type after unknown", .entries = f13_below_known },
+    { 13, "known types descending", .entries = f13_known_descending },
     { 13, "128 with another length", f13_other_length, .type = 128 },
     { 13, "129 with another length", f13_other_length, .type = 129 },
     { 13, "130 with another length", f13_other_length, .type = 130 },

@@ -8,7 +8,7 @@ TAKEN = "        if (in(&c->taken, bus))\n            return answer(NO, links);\
 HELD = "        if (in(&c->held, bus))\n            return answer(YES, links);\n"
 NOT_UP = "        if (!in(&c->subtractive, bus))\n            return answer(in(&c->declared, bus) ? NO : UNDECLARED, links);\n"
 WRITE = "    if (count > 0)\n        put_pairs(&t, side, from, &to, room);\n    return counted(count);\n"
-TO_ALL = "            for (size_t i = 0; i < to->n; i++)\n                p = put_pair(p, to->id[i], e[7]);\n"
+TO_ALL = "            p = put_to_all(p, to, e[7]);\n"
 ON_LIST = "    bool touched = q->kind == 0 && q->address < 65536;\n"
 COVERS = "e[3] == q->kind && q->address - get64(e + 4) < get64(e + 12)"
 JUDGED = "    if ((refusal = plain_judge_walk(bytes, n, &t)) != 0)\n        return refused(refusal);\n"
@@ -42,7 +42,7 @@ QUERY = [
  (19, "no test", TOO_SMALL, ""),
  (19, "empty room refused", "if (count > size / 2)", "if (count > size / 2 || size == 0)"),
  (19, "as many as fit", TOO_SMALL, "    if (count > size / 2)\n        count = size / 2;\n    if (count == 0)\n        return 0;\n"),
- (19, "first pair written", TOO_SMALL, "    if (count > size / 2) {\n        if (size >= 2)\n            put_pair(room, to.id[0], 0);\n        return refused(19);\n    }\n"),
+ (19, "first pair written", TOO_SMALL, "    if (count > size / 2) {\n        if (size >= 2)\n            put_pair(room, to.pairs[0], 0);\n        return refused(19);\n    }\n"),
  (19, "count given too", TOO_SMALL, "    if (count > size / 2)\n        return refused(19) | counted(count);\n"),
  (19, "room cleared", TOO_SMALL, "    if (count > size / 2) {\n        while (size-- > 0)\n            room[size] = 0;\n        return refused(19);\n    }\n"),
  (19, "count in 8 bits", "if (count > size / 2)", "if ((uint8_t)count > size / 2)"),
@@ -56,14 +56,16 @@ QUERY = [
  (0, "last APIC left out", "at < end; at += side->apic_size)", "at + side->apic_size < end; at += side->apic_size)"),
  (0, "255 skipped", "count += e[6] == ALL ? to->n : in(&to->set, e[6]);", "count += in(&to->set, e[6]);"),
  (0, "255 counted and not written", "        if (e[6] == ALL)\n", "        if (0)\n"),
- (0, "255 to the first", TO_ALL, "            for (size_t i = 0; i < to->n; i++)\n                p = put_pair(p, to->id[0], e[7]);\n"),
- (0, "255 in the pair", "p = put_pair(p, to->id[i], e[7]);", "p = put_pair(p, ALL, e[7]);"),
- (0, "255 backwards", "p = put_pair(p, to->id[i], e[7]);", "p = put_pair(p, to->id[to->n - 1 - i], e[7]);"),
+ (0, "255 to the first", TO_ALL, "            for (size_t i = 0; i < to->n; i++)\n                p = put_pair(p, to->pairs[0], e[7]);\n"),
+ (0, "255 in the pair", TO_ALL, "            for (size_t i = 0; i < to->n; i++)\n                p = put_pair(p, ALL, e[7]);\n"),
+ (0, "255 backwards", TO_ALL, "            for (size_t i = 0; i < to->n; i++)\n                p = put_pair(p, to->pairs[2 * (to->n - 1 - i)], e[7]);\n"),
  (0, "255 by rising ID", TO_ALL, "            for (unsigned i = 0; i < 256; i++) {\n                if (in(&to->set, (uint8_t)i))\n                    p = put_pair(p, (uint8_t)i, e[7]);\n            }\n"),
  (0, "254 is all too", "count += e[6] == ALL ?", "count += e[6] >= ALL - 1 ?"),
  (0, "input first", "    p[0] = id;\n    p[1] = input;\n", "    p[0] = input;\n    p[1] = id;\n"),
  (0, "IRQ for input", "p = put_pair(p, e[6], e[7]);", "p = put_pair(p, e[6], e[5]);"),
- (0, "IRQ for input, 255", "p = put_pair(p, to->id[i], e[7]);", "p = put_pair(p, to->id[i], e[5]);"),
+ (0, "IRQ for input, 255", "p = put_to_all(p, to, e[7]);", "p = put_to_all(p, to, e[5]);"),
+ (0, "255 by fours only", "    for (; i < to->n; i++)\n        put_pair(p + 2 * i, to->pairs[2 * i], input);\n", ""),
+ (0, "fours of three", "0, 1, 0, 1 };", "0, 1, 0, 0 };"),
  (0, "type not compared", "return e[1] == from->type && ", "return "),
  (0, "bus not compared", " && e[4] == from->bus", ""),
  (0, "IRQ not compared", " && e[5] == from->irq", ""),

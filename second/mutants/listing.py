@@ -62,15 +62,18 @@ DUMP = [
  (0, "pointer's offset for its address", "*address = r->base + at;", "*address = at;"),
 ]
 
+WRITTEN = "    return counted((size_t)(write_all(room, &f, &t) - room));\n"
+
 LIST = [
- (19, "exact room refused", "if (length > size)", "if (length >= size)"),
- (19, "one less allowed", "if (length > size)", "if (length > size + 1)"),
+ (19, "rooms over 16,384 not measured", "LONGEST = 65536", "LONGEST = 16384"),
+ (19, "exact room refused", "measure(&t) > size)", "measure(&t) >= size)"),
+ (19, "one less allowed", "measure(&t) > size)", "measure(&t) > size + 1)"),
  (19, "default: exact room refused", 'if (size < WIDTH("default 0 imcr 0\\n"))', 'if (size <= WIDTH("default 0 imcr 0\\n"))'),
  (19, "default: one less allowed", 'if (size < WIDTH("default 0 imcr 0\\n"))', 'if (size + 1 < WIDTH("default 0 imcr 0\\n"))'),
  (19, "before the judge", "    if ((refusal = plain_judge_walk(f.table, f.left, &t)) != 0)\n        return refused(refusal);\n", "    if (size == 0) return refused(19);\n    if ((refusal = plain_judge_walk(f.table, f.left, &t)) != 0)\n        return refused(refusal);\n"),
- (19, "begun and left", "    if (length > size)\n        return refused(19);\n", "    if (length > size) {\n        if (size > 0) room[0] = 'p';\n        return refused(19);\n    }\n"),
- (0, "writes past the listing", "    write_all(room, &f, &t);\n", "    write_all(room, &f, &t);\n    if (length < size) room[length] = 0;\n"),
- (0, "clears the room", "    write_all(room, &f, &t);\n", "    memset(room, 0, size);\n    write_all(room, &f, &t);\n"),
+ (19, "begun and left", "    if (size < LONGEST && measure(&t) > size)\n        return refused(19);\n", "    if (size < LONGEST && measure(&t) > size) {\n        if (size > 0) room[0] = 'p';\n        return refused(19);\n    }\n"),
+ (0, "writes past the listing", WRITTEN, "    uint8_t *end = write_all(room, &f, &t);\n    if (end < room + size)\n        *end = 0;\n    return counted((size_t)(end - room));\n"),
+ (0, "clears the room", WRITTEN, "    memset(room, 0, size);\n" + WRITTEN),
  (0, "writes at a refusal", "    if ((refusal = plain_find(dump, n, &f)) != 0)\n", "    if ((refusal = plain_find(dump, n, &f)) != 0 && size > 0)\n        room[0] = 0;\n    if (refusal != 0)\n"),
  (0, "default as a table", "if (f.standard != 0)", "if (f.standard > 6)"),
  (0, "three digits", "if (v > 999)", "if (0)"),
@@ -97,5 +100,5 @@ LIST = [
  (0, "count in one byte", "    p = put_next(p, get16(t->bytes + 34));", "    p = put_next(p, t->bytes[34]);"),
  (0, "extended length left out", "    p = put_next(p, (uint32_t)(t->ext_end - t->base_end));", "    p = put_next(p, 0);"),
  (0, "table's address for the pointer's", "put_hex(p, f->pointer, 8)", "put_hex(p, f->address, 8)"),
- (0, "no end", '    PUT(p, "end\\n");\n', '    PUT(p, "End\\n");\n'),
+ (0, "no end", 'return PUT(p, "end\\n");', 'return PUT(p, "End\\n");'),
 ]

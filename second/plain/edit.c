@@ -49,9 +49,12 @@ uint64_t plain_edit(uint8_t *t, size_t n, size_t place,
     if (memcmp(stated, t + at, size) != 0)
         return 22;
 
-    /* 23: "the edited table would be refused; the inner number is given too" */
+    /*
+     * 23: "the edited table would be refused; the inner number is given too".
+     * Lengths, types and sums are as before, so rules 5 to 13 are kept.
+     */
     exchange(t, at, stated, wanted, size);
-    if ((refusal = plain_judge(t, n)) != 0) {
+    if ((refusal = plain_judge_again(&walked)) != 0) {
         exchange(t, at, wanted, stated, size);
         return 23 | refusal << 8;
     }

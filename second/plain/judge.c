@@ -1,25 +1,71 @@
-/* The plain table judge.  Each rule quotes its row of document 01. */
+/*
+ * The plain table judge.  Each rule quotes its row of document 01.
+ *
+ * Types ascend, so the entries of one type stand together: each type has a loop
+ * that passes over its entries and tests their own rule on the way.  Rules 14 to
+ * 18 count only where 10 to 13 are kept, which is known at the end; until then
+ * the first of them that is broken is kept in mind.
+ */
 #include "plain.h"
-#include "set.h"
 
+#include <stdbool.h>
 #include <string.h>
 
 static const uint8_t base_size[BASE_TYPES] = { 20, 8, 8, 8, 8 };
-static const uint8_t ext_size[EXT_TYPES] = { 20, 8, 8 };
 
-static const char bus_names[18][6] = {
-    "CBUS  ", "CBUSII", "EISA  ", "FUTURE", "INTERN", "ISA   ",
-    "MBI   ", "MBII  ", "MCA   ", "MPI   ", "MPSA  ", "NUBUS ",
-    "PCI   ", "PCMCIA", "TC    ", "VL    ", "VME   ", "XPRESS",
+/*
+ * Six letters as a number, and the 18 names, each at the place that its number
+ * gives it.  The factor was found by trying: no two names have the same place
+ * (the compiler would warn of it).  Place 0 is taken, so six zeros are no name.
+ */
+#define NAME(a, b, c, d, e, f) \
+    ((uint64_t)(a) | (uint64_t)(b) << 8 | (uint64_t)(c) << 16 \
+     | (uint64_t)(d) << 24 | (uint64_t)(e) << 32 | (uint64_t)(f) << 40)
+#define PLACE(name) ((name) * UINT64_C(0xC64239FA24BA) >> 59)
+#define KNOWN(...) [PLACE(NAME(__VA_ARGS__))] = NAME(__VA_ARGS__)
+
+static const uint64_t bus_names[32] = {
+    KNOWN('C','B','U','S',' ',' '), KNOWN('C','B','U','S','I','I'),
+    KNOWN('E','I','S','A',' ',' '), KNOWN('F','U','T','U','R','E'),
+    KNOWN('I','N','T','E','R','N'), KNOWN('I','S','A',' ',' ',' '),
+    KNOWN('M','B','I',' ',' ',' '), KNOWN('M','B','I','I',' ',' '),
+    KNOWN('M','C','A',' ',' ',' '), KNOWN('M','P','I',' ',' ',' '),
+    KNOWN('M','P','S','A',' ',' '), KNOWN('N','U','B','U','S',' '),
+    KNOWN('P','C','I',' ',' ',' '), KNOWN('P','C','M','C','I','A'),
+    KNOWN('T','C',' ',' ',' ',' '), KNOWN('V','L',' ',' ',' ',' '),
+    KNOWN('V','M','E',' ',' ',' '), KNOWN('X','P','R','E','S','S'),
 };
 
-/* The IDs that later rules look up, gathered by rules 14 to 16. */
-struct ids {
-    struct set processors;           /* enabled or not */
-    struct set enabled_processors;
-    struct set buses;
-    struct set io_apics;             /* enabled or not */
+/* What the entries passed so far say of an ID, as bits. */
+enum {
+    TAKEN = ENABLED,                               /* by an enabled APIC */
+    A_PROCESSOR = 2, AN_IO_APIC = 4, A_BUS = 8,    /* listed, enabled or not */
+    LINKED = 16, SEEN = 32                         /* see in_a_circle() */
 };
+
+struct judge {
+    struct table *table;
+    uint8_t ids[256];
+    uint8_t later;       /* the first of 14 to 18 that is broken, or 0 */
+};
+
+static void start_judging(struct judge *j, struct table *t)
+{
+    j->table = t;
+    j->later = 0;
+    /* In pieces: gcc clears more at once by an instruction that starts slowly. */
+    for (size_t i = 0; i < sizeof j->ids; i += 64)
+        memset(j->ids + i, 0, 64);
+    /* 255 is a destination on every board, and no enabled APIC may have it. */
+    j->ids[ALL] = A_PROCESSOR | AN_IO_APIC | TAKEN;
+}
+
+/* The loops come in the order of their rules, so the first number stays. */
+static void keep_in_mind(struct judge *j, bool broken, uint8_t number)
+{
+    if (broken && j->later == 0)
+        j->later = number;
+}
 
 /* Rules 5 to 9: the header, and the base part as a whole. */
 static uint8_t judge_header(const uint8_t *t, size_t n)
@@ -48,18 +94,122 @@ static uint8_t judge_header(const uint8_t *t, size_t n)
     return 0;
 }
 
+/* ---- base entries: each loop answers where the next type begins ---- */
+
+/*
+ * 14: "local APIC address not a multiple of 4,096; not exactly one bootstrap
+ * entry, or that one disabled; an enabled processor with ID 255 or another
+ * enabled one's ID"
+ */
+static size_t pass_processors(struct judge *j, size_t at)
+{
+    const uint8_t *b = j->table->bytes;
+    size_t end = j->table->base_end;
+    uint32_t bootstraps = 0;
+    bool broken = get32(b + 36) % 4096 != 0;
+
+    for (; at + 20 <= end && b[at] == PROCESSOR; at += 20) {
+        uint8_t *id = &j->ids[b[at + 1]];
+        uint8_t flags = b[at + 3];
+
+        if (flags & BOOTSTRAP) {
+            bootstraps++;
+            if (!(flags & ENABLED))
+                broken = true;
+        }
+        if (flags & ENABLED && *id & TAKEN)
+            broken = true;
+        *id |= A_PROCESSOR | (flags & ENABLED);
+    }
+    keep_in_mind(j, broken || bootstraps != 1, 14);
+    return at;
+}
+
+/* 15: "bus ID twice, or name unknown" */
+static size_t pass_buses(struct judge *j, size_t at)
+{
+    const uint8_t *b = j->table->bytes;
+    size_t end = j->table->base_end;
+    bool broken = false;
+
+    for (; at + 8 <= end && b[at] == BUS; at += 8) {
+        uint8_t *id = &j->ids[b[at + 1]];
+        uint64_t name = get16(b + at + 2) | (uint64_t)get32(b + at + 4) << 16;
+
+        if (*id & A_BUS || name != bus_names[PLACE(name)])
+            broken = true;
+        *id |= A_BUS;
+    }
+    keep_in_mind(j, broken, 15);
+    return at;
+}
+
+/*
+ * 16: "enabled I/O APIC: ID 255, ID of another enabled I/O APIC or enabled
+ * processor, address 0 or not a multiple of 1,024"
+ */
+static size_t pass_io_apics(struct judge *j, size_t at)
+{
+    const uint8_t *b = j->table->bytes;
+    size_t end = j->table->base_end;
+    bool broken = false;
+
+    for (; at + 8 <= end && b[at] == IO_APIC; at += 8) {
+        uint8_t *id = &j->ids[b[at + 1]];
+        uint8_t on = b[at + 3] & ENABLED;
+        uint32_t address = get32(b + at + 4);
+
+        if (on && (*id & TAKEN || address == 0 || address % 1024 != 0))
+            broken = true;
+        *id |= AN_IO_APIC | on;
+    }
+    keep_in_mind(j, broken, 16);
+    return at;
+}
+
+/*
+ * 17: "interrupt type over 3; reserved polarity or trigger; bus not listed;
+ * destination neither 255 nor the ID of a listed I/O APIC (type 3) or
+ * processor (type 4), enabled or not; local input over 1"
+ */
+static inline size_t pass_interrupts(struct judge *j, size_t at, uint8_t type,
+                                     uint8_t destination, uint8_t last_input)
+{
+    const uint8_t *b = j->table->bytes;
+    size_t end = j->table->base_end;
+    bool broken = false;
+
+    for (; at + 8 <= end && b[at] == type; at += 8) {
+        const uint8_t *e = b + at;
+        uint8_t polarity = e[2] & 3;
+        uint8_t trigger = e[2] >> 2 & 3;
+
+        if (e[1] > 3 || polarity == 2 || trigger == 2
+            || !(j->ids[e[4]] & A_BUS) || !(j->ids[e[6]] & destination)
+            || e[7] > last_input)
+            broken = true;
+    }
+    keep_in_mind(j, broken, 17);
+    return at;
+}
+
 /*
  * Rules 10 to 12: "the first faulty entry decides, then the lower number; the
  * count is compared only where no entry is faulty".
  */
-static uint8_t walk_base(struct table *t)
+static uint8_t walk_base(struct judge *j)
 {
+    struct table *t = j->table;
     size_t at = HEADER_SIZE;
-    uint8_t last = 0;
-    uint32_t count = 0;
 
-    t->base[0] = at;
-    while (at < t->base_end) {
+    t->base[PROCESSOR] = at;
+    t->base[BUS] = at = pass_processors(j, at);
+    t->base[IO_APIC] = at = pass_buses(j, at);
+    t->base[IO_INT] = at = pass_io_apics(j, at);
+    t->base[LOCAL_INT] = at = pass_interrupts(j, at, IO_INT, AN_IO_APIC, 255);
+    t->base[BASE_TYPES] = at = pass_interrupts(j, at, LOCAL_INT, A_PROCESSOR, 1);
+
+    if (at < t->base_end) {
         uint8_t type = t->bytes[at];
 
         /* 10: "base type over 4" */
@@ -70,246 +220,163 @@ static uint8_t walk_base(struct table *t)
         if (base_size[type] > t->base_end - at)
             return 11;
 
-        /* 12: "type below the one before" */
-        if (type < last)
-            return 12;
-
-        while (last < type)
-            t->base[++last] = at;
-        at += base_size[type];
-        count++;
+        /* 12: "type below the one before": else its own loop had passed it */
+        return 12;
     }
-    while (last < BASE_TYPES)
-        t->base[++last] = at;
 
     /* 11: "... or count differs after the walk" */
+    size_t count = (t->base[BUS] - HEADER_SIZE) / 20 + (at - t->base[BUS]) / 8;
     return count == get16(t->bytes + 34) ? 0 : 11;
 }
 
-/*
- * 13: "extended part over 4,096, past the region, wrong sum, cut entry, length
- * under 2, type under 128 or descending, or 128 to 130 with another length
- * than theirs"
- */
-static uint8_t walk_extended(struct table *t, size_t n)
+/* ---- extended entries: the same ---- */
+
+/* Whether an entry of a known type stands there, with its length. */
+static inline bool stands(const uint8_t *b, size_t at, size_t end, uint8_t type,
+                          uint8_t size)
 {
-    size_t length = get16(t->bytes + 40);
-    size_t at = t->base_end;
-    uint8_t last = 0;   /* the last type, less 128 */
-    uint8_t mark = 0;   /* t->ext[] is known up to here */
-
-    if (length > PART_MAX || length > n - t->base_end)
-        return 13;
-    /* Byte 42 belongs to the sum, so it is 0 where no bytes follow. */
-    if ((uint8_t)(sum(t->bytes + at, length) + t->bytes[42]) != 0)
-        return 13;
-
-    t->ext_end = at + length;
-    t->ext[0] = at;
-    while (at < t->ext_end) {
-        size_t left = t->ext_end - at;
-        if (left < 2)
-            return 13;
-
-        uint8_t size = t->bytes[at + 1];
-        if (size < 2 || size > left)
-            return 13;
-        if (t->bytes[at] < EXT_FIRST)
-            return 13;
-
-        uint8_t type = t->bytes[at] - EXT_FIRST;
-        if (type < last)
-            return 13;
-        if (type < EXT_TYPES && size != ext_size[type])
-            return 13;
-
-        while (mark < type && mark < EXT_TYPES)
-            t->ext[++mark] = at;
-        last = type;
-        at += size;
-    }
-    while (mark < EXT_TYPES)
-        t->ext[++mark] = at;
-    return 0;
-}
-
-/*
- * 14: "local APIC address not a multiple of 4,096; not exactly one bootstrap
- * entry, or that one disabled; an enabled processor with ID 255 or another
- * enabled one's ID"
- */
-static uint8_t judge_processors(const struct table *t, struct ids *ids)
-{
-    uint32_t bootstraps = 0;
-
-    if (get32(t->bytes + 36) % 4096 != 0)
-        return 14;
-
-    for (size_t at = t->base[PROCESSOR]; at < t->base[PROCESSOR + 1]; at += 20) {
-        uint8_t id = t->bytes[at + 1];
-        uint8_t flags = t->bytes[at + 3];
-
-        add(&ids->processors, id);
-        if (flags & BOOTSTRAP) {
-            bootstraps++;
-            if (!(flags & ENABLED))
-                return 14;
-        }
-        if (flags & ENABLED) {
-            if (id == ALL || in(&ids->enabled_processors, id))
-                return 14;
-            add(&ids->enabled_processors, id);
-        }
-    }
-    return bootstraps == 1 ? 0 : 14;
-}
-
-static bool known_name(const uint8_t *name)
-{
-    for (size_t i = 0; i < sizeof bus_names / sizeof bus_names[0]; i++)
-        if (memcmp(name, bus_names[i], 6) == 0)
-            return true;
-    return false;
-}
-
-/* 15: "bus ID twice, or name unknown" */
-static uint8_t judge_buses(const struct table *t, struct ids *ids)
-{
-    for (size_t at = t->base[BUS]; at < t->base[BUS + 1]; at += 8) {
-        uint8_t id = t->bytes[at + 1];
-
-        if (in(&ids->buses, id) || !known_name(t->bytes + at + 2))
-            return 15;
-        add(&ids->buses, id);
-    }
-    return 0;
-}
-
-/*
- * 16: "enabled I/O APIC: ID 255, ID of another enabled I/O APIC or enabled
- * processor, address 0 or not a multiple of 1,024"
- */
-static uint8_t judge_io_apics(const struct table *t, struct ids *ids)
-{
-    struct set taken = ids->enabled_processors;
-
-    for (size_t at = t->base[IO_APIC]; at < t->base[IO_APIC + 1]; at += 8) {
-        uint8_t id = t->bytes[at + 1];
-        uint32_t address = get32(t->bytes + at + 4);
-
-        add(&ids->io_apics, id);
-        if (!(t->bytes[at + 3] & ENABLED))
-            continue;
-        if (id == ALL || in(&taken, id))
-            return 16;
-        if (address == 0 || address % 1024 != 0)
-            return 16;
-        add(&taken, id);
-    }
-    return 0;
-}
-
-/*
- * 17: "interrupt type over 3; reserved polarity or trigger; bus not listed;
- * destination neither 255 nor the ID of a listed I/O APIC (type 3) or
- * processor (type 4), enabled or not; local input over 1"
- */
-static bool sound_interrupt(const uint8_t *e, const struct set *buses,
-                            const struct set *destinations)
-{
-    uint8_t polarity = e[2] & 3;
-    uint8_t trigger = e[2] >> 2 & 3;
-
-    return e[1] <= 3
-        && polarity != 2 && trigger != 2
-        && in(buses, e[4])
-        && (e[6] == ALL || in(destinations, e[6]));
-}
-
-static uint8_t judge_interrupts(const struct table *t, const struct ids *ids)
-{
-    for (size_t at = t->base[IO_INT]; at < t->base[IO_INT + 1]; at += 8)
-        if (!sound_interrupt(t->bytes + at, &ids->buses, &ids->io_apics))
-            return 17;
-
-    for (size_t at = t->base[LOCAL_INT]; at < t->base[LOCAL_INT + 1]; at += 8)
-        if (!sound_interrupt(t->bytes + at, &ids->buses, &ids->processors)
-            || t->bytes[at + 7] > 1)
-            return 17;
-    return 0;
+    return at + size <= end && b[at] == EXT_FIRST + type && b[at + 1] == size;
 }
 
 /* 18, type 128: "extended bus ... not listed; kind over 2; range past 2^64" */
-static uint8_t judge_mappings(const struct table *t, const struct set *buses)
+static size_t pass_mappings(struct judge *j, size_t at)
 {
-    for (size_t at = t->ext[MAPPING]; at < t->ext[MAPPING + 1]; at += 20) {
-        const uint8_t *e = t->bytes + at;
+    const uint8_t *b = j->table->bytes;
+    size_t end = j->table->ext_end;
+    bool broken = false;
+
+    for (; stands(b, at, end, MAPPING, 20); at += 20) {
+        const uint8_t *e = b + at;
         uint64_t base = get64(e + 4);
         uint64_t length = get64(e + 12);
 
-        if (!in(buses, e[2]) || e[3] > 2)
-            return 18;
+        if (!(j->ids[e[2]] & A_BUS) || e[3] > 2)
+            broken = true;
         /* The last address, base + length - 1, is at most 2^64 - 1. */
         if (length != 0 && length - 1 > UINT64_MAX - base)
-            return 18;
+            broken = true;
     }
-    return 0;
+    keep_in_mind(j, broken, 18);
+    return at;
+}
+
+/*
+ * Climb from each linked bus to the first bus that has no parent or was seen
+ * before.  A bus seen earlier in the same climb closes a circle.  Every bus is
+ * stepped over once in all.
+ */
+static bool in_a_circle(const uint8_t *link, const uint8_t *end, uint8_t *ids,
+                        const uint8_t *parent)
+{
+    uint8_t climb[256];   /* set for the seen ones: who came past */
+
+    for (; link < end; link += 8) {
+        uint8_t start = link[2];
+        uint8_t bus = start;
+
+        if (ids[start] & SEEN)
+            continue;
+        while ((ids[bus] & (LINKED | SEEN)) == LINKED) {
+            ids[bus] |= SEEN;
+            climb[bus] = start;
+            bus = parent[bus];
+        }
+        if (ids[bus] & SEEN && climb[bus] == start)
+            return true;
+    }
+    return false;
 }
 
 /*
  * 18, type 129: "extended bus or parent not listed; ... second type 129 entry
  * for a bus; parents in a circle (self too)"
  */
-static uint8_t judge_links(const struct table *t, const struct set *buses)
+static size_t pass_links(struct judge *j, size_t at)
 {
-    struct set linked = { { 0 } };   /* the buses that have a parent */
-    struct set seen = { { 0 } };     /* those a climb has come past */
-    uint8_t parent[256];             /* set for the linked ones */
-    uint8_t climb[256];              /* set for the seen ones: who came past */
+    const uint8_t *b = j->table->bytes;
+    size_t end = j->table->ext_end;
+    size_t first = at;
+    uint8_t parent[256];   /* set for the linked ones */
+    bool broken = false;
 
-    for (size_t at = t->ext[LINK]; at < t->ext[LINK + 1]; at += 8) {
-        const uint8_t *e = t->bytes + at;
+    for (; stands(b, at, end, LINK, 8); at += 8) {
+        const uint8_t *e = b + at;
+        uint8_t *bus = &j->ids[e[2]];
 
-        if (!in(buses, e[2]) || !in(buses, e[4]) || in(&linked, e[2]))
-            return 18;
-        add(&linked, e[2]);
+        if (!(*bus & A_BUS) || !(j->ids[e[4]] & A_BUS) || *bus & LINKED)
+            broken = true;
+        *bus |= LINKED;
         parent[e[2]] = e[4];
     }
-
-    /*
-     * Climb from each linked bus to the first bus that has no parent or was
-     * seen before.  A bus seen earlier in the same climb closes a circle.
-     * Every bus is stepped over once in all.
-     */
-    for (size_t at = t->ext[LINK]; at < t->ext[LINK + 1]; at += 8) {
-        uint8_t start = t->bytes[at + 2];
-        uint8_t bus = start;
-
-        if (in(&seen, start))
-            continue;
-        while (in(&linked, bus) && !in(&seen, bus)) {
-            add(&seen, bus);
-            climb[bus] = start;
-            bus = parent[bus];
-        }
-        if (in(&seen, bus) && climb[bus] == start)
-            return 18;
-    }
-    return 0;
+    keep_in_mind(j, broken || in_a_circle(b + first, b + at, j->ids,
+                                              parent), 18);
+    return at;
 }
 
 /* 18, type 130: "extended bus ... not listed; ... list over 1" */
-static uint8_t judge_modifiers(const struct table *t, const struct set *buses)
+static size_t pass_modifiers(struct judge *j, size_t at)
 {
-    for (size_t at = t->ext[MODIFIER]; at < t->ext[MODIFIER + 1]; at += 8)
-        if (!in(buses, t->bytes[at + 2]) || get32(t->bytes + at + 4) > 1)
-            return 18;
+    const uint8_t *b = j->table->bytes;
+    size_t end = j->table->ext_end;
+    bool broken = false;
+
+    for (; stands(b, at, end, MODIFIER, 8); at += 8) {
+        const uint8_t *e = b + at;
+
+        if (!(j->ids[e[2]] & A_BUS) || get32(e + 4) > 1)
+            broken = true;
+    }
+    keep_in_mind(j, broken, 18);
+    return at;
+}
+
+/* "Other types are skipped by their length." */
+static size_t pass_others(const struct table *t, size_t at)
+{
+    const uint8_t *b = t->bytes;
+    uint8_t last = EXT_FIRST + EXT_TYPES;
+
+    while (at + 2 <= t->ext_end && b[at] >= last
+           && b[at + 1] >= 2 && at + b[at + 1] <= t->ext_end) {
+        last = b[at];
+        at += b[at + 1];
+    }
+    return at;
+}
+
+/* 13: "extended part over 4,096, past the region, wrong sum, ..." */
+static uint8_t judge_extended_part(struct table *t, size_t n)
+{
+    size_t length = get16(t->bytes + 40);
+
+    if (length > PART_MAX || length > n - t->base_end)
+        return 13;
+    /* Byte 42 belongs to the sum, so it is 0 where no bytes follow. */
+    if ((uint8_t)(sum(t->bytes + t->base_end, length) + t->bytes[42]) != 0)
+        return 13;
+    t->ext_end = t->base_end + length;
     return 0;
+}
+
+/*
+ * 13: "... cut entry, length under 2, type under 128 or descending, or 128 to
+ * 130 with another length than theirs": at such an entry no loop goes on.
+ */
+static uint8_t walk_extended(struct judge *j)
+{
+    struct table *t = j->table;
+    size_t at = t->base_end;
+
+    t->ext[MAPPING] = at;
+    t->ext[LINK] = at = pass_mappings(j, at);
+    t->ext[MODIFIER] = at = pass_links(j, at);
+    t->ext[EXT_TYPES] = at = pass_modifiers(j, at);
+    return pass_others(t, at) == t->ext_end ? 0 : 13;
 }
 
 uint8_t plain_judge_walk(const uint8_t *bytes, size_t n, struct table *t)
 {
-    struct ids ids = { 0 };
+    struct judge j;
     uint8_t refusal;
 
     if ((refusal = judge_header(bytes, n)) != 0)
@@ -317,17 +384,23 @@ uint8_t plain_judge_walk(const uint8_t *bytes, size_t n, struct table *t)
 
     t->bytes = bytes;
     t->base_end = get16(bytes + 4);
-    if ((refusal = walk_base(t)) != 0
-        || (refusal = walk_extended(t, n)) != 0
-        || (refusal = judge_processors(t, &ids)) != 0
-        || (refusal = judge_buses(t, &ids)) != 0
-        || (refusal = judge_io_apics(t, &ids)) != 0
-        || (refusal = judge_interrupts(t, &ids)) != 0
-        || (refusal = judge_mappings(t, &ids.buses)) != 0
-        || (refusal = judge_links(t, &ids.buses)) != 0
-        || (refusal = judge_modifiers(t, &ids.buses)) != 0)
+    start_judging(&j, t);
+    if ((refusal = walk_base(&j)) != 0
+        || (refusal = judge_extended_part(t, n)) != 0
+        || (refusal = walk_extended(&j)) != 0)
         return refusal;
-    return 0;
+    return j.later;
+}
+
+uint8_t plain_judge_again(struct table *t)
+{
+    struct judge j;
+
+    start_judging(&j, t);
+    walk_base(&j);
+    if (j.later == 0)
+        walk_extended(&j);
+    return j.later;
 }
 
 uint64_t plain_judge(const uint8_t *bytes, size_t n)

@@ -1,10 +1,17 @@
 /*
- * The plain listing: one pass to judge, one to measure, one to write.  Each
- * line has a function that says how wide it is and one that writes it.
+ * The plain listing: one pass to judge, one to write, and where the room could be
+ * too small one between them to measure.  Each line has a function that says how
+ * wide it is and one that writes it.
  */
 #include "plain.h"
 
 #include <string.h>
+
+/*
+ * A room of at least this size holds every listing: no line has more than seven
+ * times the bytes of its entry, and a table has at most 8,192.
+ */
+enum { LONGEST = 65536 };
 
 /* ---- words and numbers ---- */
 
@@ -282,7 +289,7 @@ static size_t measure(const struct table *t)
     return n;
 }
 
-static void write_all(uint8_t *p, const struct found *f, const struct table *t)
+static uint8_t *write_all(uint8_t *p, const struct found *f, const struct table *t)
 {
     const uint8_t *b = t->bytes;
 
@@ -305,7 +312,7 @@ static void write_all(uint8_t *p, const struct found *f, const struct table *t)
         p = put_modifier(p, b + at);
     EACH_OTHER(at, t)
         p = put_skipped(p, b + at);
-    PUT(p, "end\n");
+    return PUT(p, "end\n");
 }
 
 static uint64_t list_default(const struct found *f, uint8_t *room, size_t size)
@@ -329,9 +336,7 @@ uint64_t plain_list(const uint8_t *dump, size_t n, uint8_t *room, size_t size)
         return refused(refusal);
 
     /* 19: "answer longer than the lent room" */
-    size_t length = measure(&t);
-    if (length > size)
+    if (size < LONGEST && measure(&t) > size)
         return refused(19);
-    write_all(room, &f, &t);
-    return counted(length);
+    return counted((size_t)(write_all(room, &f, &t) - room));
 }

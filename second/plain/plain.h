@@ -30,6 +30,12 @@ uint64_t plain_judge(const uint8_t *t, size_t n);
 /* The same; where it answers 0, it also tells where the entries stand. */
 uint8_t plain_judge_walk(const uint8_t *t, size_t n, struct table *walked);
 
+/*
+ * Judges such a table again, where one of its entries has been changed but for
+ * type and length and the base bytes still add to 0: 0, or 14 to 18.
+ */
+uint8_t plain_judge_again(struct table *walked);
+
 /* ---- reading a dump: 1 to 4; with the table in it judged: 1 to 18 ---- */
 
 /* What a sound dump leads to. */

@@ -6,6 +6,8 @@
 #include "plain.h"
 #include "set.h"
 
+#include <string.h>
+
 static bool listed(const struct table *t, uint8_t bus)
 {
     for (size_t at = t->base[BUS]; at < t->base[BUS + 1]; at += 8)
@@ -37,9 +39,16 @@ struct source {
  */
 struct targets {
     struct set set;
-    uint8_t id[ALL];   /* in table order */
+    uint8_t pairs[2 * ALL];   /* (ID, 0), in table order */
     size_t n;
 };
+
+static inline uint8_t *put_pair(uint8_t *p, uint8_t id, uint8_t input)
+{
+    p[0] = id;
+    p[1] = input;
+    return p + 2;
+}
 
 static void gather_targets(const struct table *t, const struct side *side,
                            struct targets *to)
@@ -53,7 +62,7 @@ static void gather_targets(const struct table *t, const struct side *side,
 
         if (e[3] & ENABLED) {
             add(&to->set, e[1]);
-            to->id[to->n++] = e[1];
+            put_pair(to->pairs + 2 * to->n++, e[1], 0);
         }
     }
 }
@@ -78,11 +87,26 @@ static size_t count_pairs(const struct table *t, const struct side *side,
     return count;
 }
 
-static inline uint8_t *put_pair(uint8_t *p, uint8_t id, uint8_t input)
+/*
+ * The pairs of all targets with one input.  In the gathered ones 0 stands in its
+ * place; it goes into four of them at once.
+ */
+static uint8_t *put_to_all(uint8_t *p, const struct targets *to, uint8_t input)
 {
-    p[0] = id;
-    p[1] = input;
-    return p + 2;
+    static const uint8_t ones[8] = { 0, 1, 0, 1, 0, 1, 0, 1 };
+    uint64_t inputs, four;
+    size_t i = 0;
+
+    memcpy(&inputs, ones, sizeof inputs);
+    inputs *= input;
+    for (; to->n - i >= 4; i += 4) {
+        memcpy(&four, to->pairs + 2 * i, sizeof four);
+        four |= inputs;
+        memcpy(p + 2 * i, &four, sizeof four);
+    }
+    for (; i < to->n; i++)
+        put_pair(p + 2 * i, to->pairs[2 * i], input);
+    return p + 2 * to->n;
 }
 
 static void put_pairs(const struct table *t, const struct side *side,
@@ -97,8 +121,7 @@ static void put_pairs(const struct table *t, const struct side *side,
         if (!comes_from(e, from))
             continue;
         if (e[6] == ALL)
-            for (size_t i = 0; i < to->n; i++)
-                p = put_pair(p, to->id[i], e[7]);
+            p = put_to_all(p, to, e[7]);
         else if (in(&to->set, e[6]))
             p = put_pair(p, e[6], e[7]);
     }

@@ -61,12 +61,22 @@ static inline void put32(uint8_t *p, uint32_t v)
     put16(p + 2, v >> 16);
 }
 
-/* "Sums taken modulo 256". */
+/*
+ * "Sums taken modulo 256": sixteen of them side by side, which a compiler can add
+ * by one instruction.
+ */
 static inline uint8_t sum(const uint8_t *p, size_t n)
 {
+    uint8_t part[16] = { 0 };
     uint8_t s = 0;
+    size_t i = 0;
 
-    for (size_t i = 0; i < n; i++)
+    for (; n - i >= 16; i += 16)
+        for (size_t k = 0; k < 16; k++)
+            part[k] += p[i + k];
+    for (size_t k = 0; k < 16; k++)
+        s += part[k];
+    for (; i < n; i++)
         s += p[i];
     return s;
 }

@@ -7,16 +7,17 @@
 #include <string.h>
 
 /*
- * How many entries the base bytes are walked into.  Where one has another type
- * or is cut, the judge's own walk ends there too, and no count is looked at.
+ * How many entries the base bytes are walked into: processors come first, and all
+ * others have eight bytes.  Where that is not so, the judge's own walk finds a
+ * faulty entry, and no count is looked at.
  */
 static uint32_t count_entries(const uint8_t *base, size_t length)
 {
-    uint32_t count = 0;
+    size_t at = 0;
 
-    for (size_t at = 0; at < length && base[at] < BASE_TYPES; count++)
-        at += base[at] == PROCESSOR ? 20 : 8;
-    return count;
+    while (at + 20 <= length && base[at] == PROCESSOR)
+        at += 20;
+    return (uint32_t)(at / 20 + (length - at) / 8);
 }
 
 /* All but the checksums, which are 0 here and are set when the rest stands. */

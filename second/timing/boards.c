@@ -1,6 +1,8 @@
 /* Tables to measure with: typical ones, and full ones that stress one thing. */
 #include "boards.h"
 
+#include <stdio.h>
+#include <stdlib.h>
 #include <string.h>
 
 static void processors(struct builder *b, uint32_t on, uint32_t off)
@@ -11,10 +13,18 @@ static void processors(struct builder *b, uint32_t on, uint32_t off)
         add_processor(b, 255, 0);
 }
 
+/* Of all names in turn. */
 static void buses(struct builder *b, uint32_t n)
 {
     for (uint32_t i = 0; i < n; i++)
         add_bus(b, (uint8_t)i, bus_names[i * 7 % 18]);
+}
+
+/* The last is ISA. */
+static void pci_buses(struct builder *b, uint32_t n)
+{
+    for (uint32_t i = 0; i < n; i++)
+        add_bus(b, (uint8_t)i, i < n - 1 ? "PCI   " : "ISA   ");
 }
 
 static void io_apics(struct builder *b, uint32_t first, uint32_t n)
@@ -23,22 +33,17 @@ static void io_apics(struct builder *b, uint32_t first, uint32_t n)
         add_io_apic(b, (uint8_t)(first + i), 1, 0xFEC00000u + (i << 12));
 }
 
-/* Fills the base: seven in eight I/O, the rest local. */
-static void interrupts(struct builder *b, size_t goal, uint32_t n_bus,
-                       uint32_t first_apic, uint32_t n_apic, uint32_t n_cpu)
+/* From all of the buses in turn, to one destination after the other and to all. */
+static void interrupts(struct builder *b, uint8_t entry, uint32_t n, uint32_t n_bus,
+                       uint32_t first, uint32_t n_to)
 {
-    uint32_t n = (uint32_t)(base_left(b, goal) / 8);
     static const uint8_t flags[4] = { 0, 5, 15, 13 };
 
-    for (uint32_t i = 0; i < n; i++) {
-        bool local = i >= n - n / 8;
-        uint32_t to = local ? i % n_cpu : first_apic + i % n_apic;
-
-        add_interrupt(b, local ? 4 : 3, i % 5 == 0 ? 3 : 0, flags[i % 4],
+    for (uint32_t i = 0; i < n; i++)
+        add_interrupt(b, entry, i % 5 == 0 ? 3 : 0, flags[i % 4],
                       (uint8_t)(i % n_bus), (uint8_t)i,
-                      (uint8_t)(i % 11 == 0 ? 255 : to),
-                      (uint8_t)(local ? i & 1 : i % 24));
-    }
+                      (uint8_t)(i % 11 == 0 ? 255 : first + i % n_to),
+                      (uint8_t)(entry == 4 ? i & 1 : i % 24));
 }
 
 static void mappings(struct builder *b, uint32_t n, uint32_t n_bus)
@@ -48,11 +53,11 @@ static void mappings(struct builder *b, uint32_t n, uint32_t n_bus)
                     (uint64_t)i << 24, 1u << (12 + i % 12));
 }
 
-/* A tree of which every other bus is subtractive, or a chain of which all are. */
-static void links(struct builder *b, uint32_t n_bus, bool chain)
+/* A tree, of which every other bus is subtractive. */
+static void tree(struct builder *b, uint32_t n_bus)
 {
     for (uint32_t i = n_bus - 1; i > 0; i--)
-        add_link(b, (uint8_t)i, chain || i & 1, (uint8_t)(chain ? i - 1 : i / 2));
+        add_link(b, (uint8_t)i, i & 1, (uint8_t)(i / 2));
 }
 
 static void modifiers(struct builder *b, uint32_t n, uint32_t n_bus)
@@ -73,124 +78,164 @@ static void unknowns(struct builder *b, size_t goal, uint8_t length)
     }
 }
 
-/* 20 x mappings and 8 x modifiers fill 4,096 and 2,048 exactly. */
-static void mostly_mappings(struct builder *b, size_t goal, uint32_t n_bus)
+/* A table is called full where both parts have 4,096 / part bytes. */
+static void must_be_full(const struct builder *b, size_t goal)
 {
-    mappings(b, (uint32_t)(goal / 20) & ~1u, n_bus);
-    modifiers(b, (uint32_t)((goal - b->ext_len) / 8), n_bus);
+    if (base_left(b, goal) == 0 && ext_left(b, goal) == 0)
+        return;
+    fprintf(stderr, "%zu + %zu bytes, not %zu\n", HEADER + b->base_len, b->ext_len,
+            goal);
+    exit(2);
 }
 
-void make_mixed(struct builder *b, size_t goal, uint32_t part)
+void make_mixed(struct builder *b, uint32_t part)
 {
+    size_t goal = PART_LIMIT / part;
+
     /* 16 enabled ones and a disabled one: 4,096 needs an odd number. */
     processors(b, 16 / part, 1);
     buses(b, 32 / part);
     io_apics(b, 16, 8 / part);
-    interrupts(b, goal, 32 / part, 16, 8 / part, 16 / part);
+
+    uint32_t n = (uint32_t)(base_left(b, goal) / 8);
+    interrupts(b, 3, n - n / 8, 32 / part, 16, 8 / part);
+    interrupts(b, 4, n / 8, 32 / part, 0, 16 / part);
     mappings(b, 150 / part, 32 / part);
-    links(b, 32 / part, false);
+    tree(b, 32 / part);
     modifiers(b, 20 / part, 32 / part);
     unknowns(b, goal, 16);
+    must_be_full(b, goal);
 }
 
-void make_interrupts(struct builder *b, size_t goal, uint32_t part)
+void make_processors(struct builder *b, uint32_t part)
 {
-    (void)part;
+    processors(b, 200 / part, 0);
+}
+
+void make_buses(struct builder *b, uint32_t part)
+{
     processors(b, 1, 0);
-    buses(b, 1);
+    buses(b, 256 / part);
+}
+
+void make_pci_buses(struct builder *b, uint32_t part)
+{
+    processors(b, 1, 0);
+    pci_buses(b, 256 / part);
+}
+
+void make_io_apics(struct builder *b, uint32_t part)
+{
+    small_board(b);
+    io_apics(b, 1, 250 / part);
+}
+
+void make_interrupts(struct builder *b, uint32_t part)
+{
+    small_board(b);
     io_apics(b, 1, 1);
-    interrupts(b, goal, 1, 1, 1, 1);
-    mostly_mappings(b, goal, 1);
+    interrupts(b, 3, 500 / part, 1, 1, 1);
 }
 
-void make_processors(struct builder *b, size_t goal, uint32_t part)
+void make_local_interrupts(struct builder *b, uint32_t part)
 {
-    uint32_t n = part == 1 ? 201 : 99;
-
-    processors(b, n, 0);
-    buses(b, 1);
-    io_apics(b, n, 1);
-    interrupts(b, goal, 1, n, 1, n);
-    mostly_mappings(b, goal, 1);
+    small_board(b);
+    interrupts(b, 4, 500 / part, 1, 0, 1);
 }
 
-void make_chain(struct builder *b, size_t goal, uint32_t part)
+void make_mappings(struct builder *b, uint32_t part)
 {
-    uint32_t n = 256 / part;
+    small_board(b);
+    mappings(b, 204 / part, 1);
+}
 
+static void chain(struct builder *b, uint32_t n, bool root_first)
+{
     processors(b, 1, 0);
-    buses(b, n);
-    io_apics(b, 1, 1);
-    interrupts(b, goal, n, 1, 1, 1);
-    mappings(b, 100 / part, n);
-    links(b, n, true);
-    modifiers(b, (uint32_t)((goal - b->ext_len) / 8), n);
+    buses(b, n + 1);
+    for (uint32_t i = 1; i <= n; i++) {
+        uint32_t bus = root_first ? i : n + 1 - i;
+
+        add_link(b, (uint8_t)bus, 1, (uint8_t)(bus - 1));
+    }
 }
 
-void make_io_apics(struct builder *b, size_t goal, uint32_t part)
+void make_chain(struct builder *b, uint32_t part)
 {
-    uint32_t n = 254 / part;
-
-    processors(b, 1, 0);
-    buses(b, 1);
-    io_apics(b, 1, n);
-    interrupts(b, goal, 1, 1, n, 1);
-    mostly_mappings(b, goal, 1);
+    chain(b, 254 / part, false);
 }
 
-void make_unknowns(struct builder *b, size_t goal, uint32_t part)
+void make_rising_chain(struct builder *b, uint32_t part)
 {
-    (void)part;
-    processors(b, 1, 0);
+    chain(b, 254 / part, true);
+}
+
+void make_modifiers(struct builder *b, uint32_t part)
+{
+    small_board(b);
+    modifiers(b, 512 / part, 1);
+}
+
+void make_unknowns(struct builder *b, uint32_t part)
+{
+    small_board(b);
+    unknowns(b, PART_LIMIT / part, 2);
+}
+
+/* All of one source to all; each answer has 16 pairs for an interrupt. */
+void make_sixteen(struct builder *b, uint32_t part)
+{
+    processors(b, 16, 0);
     buses(b, 1);
-    io_apics(b, 1, 1);
-    interrupts(b, goal, 1, 1, 1, 1);
-    unknowns(b, goal, 2);
+    io_apics(b, 16, 16);
+    for (uint32_t i = 0; i < 220 / part; i++)
+        add_interrupt(b, 3, 0, 0, 0, 1, 255, (uint8_t)i);
+    for (uint32_t i = 0; i < 220 / part; i++)
+        add_interrupt(b, 4, 0, 0, 0, 1, 255, (uint8_t)(i & 1));
 }
 
 /* Half of the base I/O APICs, half interrupts of one source to all of them. */
-static void one_source(struct builder *b, size_t goal, uint32_t part, uint32_t on)
+static void one_source(struct builder *b, uint32_t on)
 {
-    uint32_t n = 250 / part;
-
-    processors(b, 1, 0);
-    buses(b, 1);
+    small_board(b);
     io_apics(b, 1, on);
-    for (uint32_t i = on; i < n; i++)
+    for (uint32_t i = on; i < 250; i++)
         add_io_apic(b, (uint8_t)(1 + i), 0, 0);
-    while (base_left(b, goal) > 0)
+    while (base_left(b, PART_LIMIT) > 0)
         add_interrupt(b, 3, 0, 0, 0, 1, 255, (uint8_t)b->count);
-    mostly_mappings(b, goal, 1);
 }
 
-void make_few_targets(struct builder *b, size_t goal, uint32_t part)
+void make_few_targets(struct builder *b, uint32_t part)
 {
-    one_source(b, goal, part, 2);
+    (void)part;
+    one_source(b, 2);
 }
 
-void make_many_targets(struct builder *b, size_t goal, uint32_t part)
+void make_many_targets(struct builder *b, uint32_t part)
 {
-    one_source(b, goal, part, 250 / part);
+    (void)part;
+    one_source(b, 250);
 }
 
-void make_bench(struct builder *b, size_t goal, uint32_t part)
+void make_bench(struct builder *b, uint32_t part)
 {
     uint8_t board[HEADER + 52];
 
-    (void)goal, (void)part;
+    (void)part;
     bench_board(board);
     unseal(b, board);
 }
 
-void make_typical(struct builder *b, size_t goal, uint32_t part)
+void make_typical(struct builder *b, uint32_t part)
 {
-    (void)goal, (void)part;
+    (void)part;
     processors(b, 4, 0);
-    buses(b, 4);
+    pci_buses(b, 4);
     io_apics(b, 4, 2);
-    interrupts(b, HEADER + b->base_len + 8 * 24, 4, 4, 2, 4);
+    interrupts(b, 3, 21, 4, 4, 2);
+    interrupts(b, 4, 3, 4, 0, 4);
     mappings(b, 4, 4);
-    links(b, 3, false);
+    tree(b, 3);
     modifiers(b, 2, 4);
 }
 

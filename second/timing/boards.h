@@ -6,29 +6,37 @@
 
 #include <stdbool.h>
 
-/* Fills both parts to the goal, 4,096 / part bytes each. */
-typedef void make_board(struct builder *b, size_t goal, uint32_t part);
+/* Fills a started builder; with part 2, half of what is meant. */
+typedef void make_board(struct builder *b, uint32_t part);
 
-make_board make_mixed, make_interrupts, make_processors, make_io_apics,
-           make_unknowns;
+/* Both parts full, entries of all types in them. */
+make_board make_mixed;
 
-/* A chain of buses that are all subtractive. */
-make_board make_chain;
+/*
+ * Little but so many entries of one type.  The buses have all names in turn, or
+ * are PCI and the last one ISA; the unknown entries have two bytes; all buses of
+ * the chain are subtractive, and its links come from the far end on, or from the
+ * root on.
+ */
+make_board make_processors, make_buses, make_pci_buses, make_io_apics,
+           make_interrupts, make_local_interrupts, make_mappings, make_chain,
+           make_rising_chain, make_modifiers, make_unknowns;
+
+/* 220 interrupts of one source to all of 16 I/O APICs, and to all of 16 processors. */
+make_board make_sixteen;
 
 /*
  * 253 interrupts of one source to all of 250 I/O APICs, of which two are on, or
- * all.
+ * all.  These have one size, and so do
  */
 make_board make_few_targets, make_many_targets;
 
-/*
- * The bench board; and some 40 entries, as boards of the day have.  These two
- * have one size.
- */
+/* the bench board, and some 40 entries on PCI and ISA, as boards of the day have. */
 make_board make_bench, make_typical;
 
-/* Where the floating pointer of a dump stands. */
+/* Where the floating pointer of a dump stands; and the table in it. */
 enum pointer { FIRST, LAST, NOWHERE };
+enum { TABLE_IN_DUMP = 1 + 9 + 16 };
 
 /*
  * A dump of one kind 3 region at F0000h, the table at F0010h as on the bench

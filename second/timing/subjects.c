@@ -31,50 +31,51 @@ uint64_t call_program(int program, struct subject *s)
 struct board {
     const char *name;
     make_board *make;
-    bool halved;             /* 4,096 + 4,096 bytes, and once more half of them */
-    size_t dump;             /* so long, and once more half; 0 as needed */
+    size_t dump;             /* the dump has so many bytes; 0: as many as needed */
     enum pointer pointer;
-    unsigned works;
+    unsigned rows;           /* what speed does with it, */
+    unsigned doubled;        /* and growth, with half of it too */
 };
 
 enum {
     EVERY = BIT(WORKS) - 1,
-    OFTEN = BIT(JUDGE) | BIT(LIST) | BIT(LIST_FITTING) | BIT(EDIT) | BIT(WRITE)
+    DUMPS = BIT(READ) | BIT(ADDRESSES) | BIT(LIST) | BIT(LIST_FITTING),
+    LISTS = BIT(JUDGE) | BIT(LIST) | BIT(LIST_FITTING),
+    BOTH_ROUTES = BIT(ROUTES) | BIT(LOCAL_ROUTES)
 };
 
 static const struct board boards[] = {
-    { "bench board", make_bench, false, 0, FIRST, EVERY },
-    { "a typical board, 42 entries", make_typical, false, 0, FIRST, EVERY },
-    { "full table, all entry types", make_mixed, true, 0, FIRST, EVERY },
-    { "full table, interrupts and mappings", make_interrupts, true, 0, FIRST,
-      OFTEN },
-    { "full table, unknown types of length 2", make_unknowns, true, 0, FIRST,
-      OFTEN },
-    { "full table, 201 processors", make_processors, true, 0, FIRST, BIT(JUDGE) },
-    { "full table, 254 I/O APICs", make_io_apics, true, 0, FIRST, BIT(JUDGE) },
-    { "full table, a chain of 256 buses", make_chain, true, 0, FIRST,
+    { "bench board", make_bench, 0, FIRST, EVERY, 0 },
+    { "a typical board, 42 entries", make_typical, 0, FIRST, EVERY, 0 },
+    { "full table, all entry types", make_mixed, 0, FIRST, EVERY, EVERY },
+    { "full table in 65,536 bytes", make_mixed, SUBJECT_ROOM, LAST, EVERY, DUMPS },
+    { "65,536 bytes, pointer in the last paragraph", make_typical, SUBJECT_ROOM,
+      LAST, BIT(READ) | BIT(LIST) | BIT(LIST_FITTING), 0 },
+    { "65,536 bytes, no pointer", make_typical, SUBJECT_ROOM, NOWHERE,
+      BIT(READ) | BIT(LIST), BIT(READ) },
+    { "200 processors", make_processors, 0, FIRST, BIT(JUDGE), BIT(JUDGE) },
+    { "256 buses", make_buses, 0, FIRST, BIT(JUDGE), LISTS },
+    { "256 buses, PCI and ISA", make_pci_buses, 0, FIRST, BIT(JUDGE), 0 },
+    { "250 I/O APICs", make_io_apics, 0, FIRST, BIT(JUDGE), BIT(JUDGE) },
+    { "500 interrupts", make_interrupts, 0, FIRST, BIT(JUDGE),
+      LISTS | BIT(EDIT) | BIT(WRITE) },
+    { "500 local interrupts", make_local_interrupts, 0, FIRST, BIT(JUDGE),
+      BIT(JUDGE) },
+    { "204 mappings", make_mappings, 0, FIRST, BIT(JUDGE), LISTS | BIT(ADDRESS) },
+    { "a chain of 254 links", make_chain, 0, FIRST, BIT(JUDGE) | BIT(ADDRESS),
       BIT(JUDGE) | BIT(ADDRESS) },
-    { "253 entries to all of 250 I/O APICs, two on", make_few_targets, true, 0,
-      FIRST, BIT(ROUTES) },
-    { "the same, all on", make_many_targets, true, 0, FIRST, BIT(ROUTES) },
-    { "65,536 bytes, pointer in the last paragraph", make_typical, false,
-      SUBJECT_ROOM, LAST, BIT(READ) | BIT(LIST) | BIT(LIST_FITTING) },
-    { "65,536 bytes, no pointer", make_typical, false, SUBJECT_ROOM, NOWHERE,
-      BIT(READ) | BIT(LIST) },
+    { "a chain of 254 links, root first", make_rising_chain, 0, FIRST, BIT(JUDGE),
+      BIT(JUDGE) },
+    { "512 modifiers", make_modifiers, 0, FIRST, BIT(JUDGE),
+      BIT(JUDGE) | BIT(IO_ADDRESS) },
+    { "2,048 unknown entries", make_unknowns, 0, FIRST, LISTS,
+      LISTS | BIT(WRITE) | BIT(WALK) },
+    { "220 entries to all of 16", make_sixteen, 0, FIRST, BOTH_ROUTES,
+      BOTH_ROUTES },
+    { "253 entries to all of 250, two on", make_few_targets, 0, FIRST, BIT(ROUTES),
+      0 },
+    { "253 entries to all of 250", make_many_targets, 0, FIRST, BIT(ROUTES), 0 },
 };
-
-static void fill(const struct board *k, uint32_t part)
-{
-    size_t goal = PART_LIMIT / part;
-
-    builder_start(&b, 0xFEE00000u);
-    k->make(&b, goal, part);
-    if (k->halved && (HEADER + b.base_len != goal || b.ext_len != goal)) {
-        fprintf(stderr, "%s: %zu + %zu bytes, not %zu\n", k->name,
-                HEADER + b.base_len, b.ext_len, goal);
-        exit(1);
-    }
-}
 
 /* ---- what is asked of the board in b ---- */
 
@@ -114,16 +115,17 @@ static void ask_write(struct subject *s)
     f->local_apic = get_le(b.header + 36, 4);
     f->reserved = b.header[43];
     s->base_end = HEADER + b.base_len;
+    s->ext_end = s->base_end + b.ext_len;
 }
 
-/* The source of an I/O interrupt in the middle of them. */
-static void ask_routes(struct subject *s)
+/* The source of an interrupt in the middle of them. */
+static void ask_routes(struct subject *s, uint8_t entry)
 {
     size_t first = 0, last = b.base_len;
 
-    while (b.base[first] != 3)
+    while (b.base[first] != entry)
         first += entry_length(b.base + first);
-    while (b.base[last - 8] != 3)
+    while (b.base[last - 8] != entry)
         last -= 8;
 
     const uint8_t *e = b.base + first + (last - first) / 16 * 8;
@@ -158,26 +160,63 @@ static void ask_io_address(struct subject *s)
 
 /* ---- subjects ---- */
 
-static uint64_t expected(const struct board *k, enum work work)
+static const char *const works[WORKS] = {
+    [JUDGE] = "judge", [PARTS] = "take apart", [READ] = "read a dump",
+    [ADDRESSES] = "addresses in a dump", [LIST] = "list",
+    [LIST_FITTING] = "list, room just fits", [EDIT] = "edit",
+    [EDIT_REFUSED] = "edit refused with 23", [WRITE] = "write",
+    [ROUTES] = "route", [LOCAL_ROUTES] = "local route", [ADDRESS] = "address",
+    [IO_ADDRESS] = "I/O address", [WALK] = "walk the entries",
+};
+
+const char *label(const struct subject *s)
 {
-    if (work == EDIT_REFUSED)
-        return 23 | 17 << 8;
-    return k->pointer == NOWHERE ? 2 : 0;
+    static char text[2 * LABEL_WIDTH];
+    int n = snprintf(text, sizeof text, "%s: %s", works[s->work], s->name);
+
+    if (BIT(s->work) & BOTH_ROUTES)
+        snprintf(text + n, sizeof text - (size_t)n, ", pairs %zu",
+                 ruxtajma_count(s->answer));
+    if (s->work == ADDRESS || s->work == IO_ADDRESS)
+        snprintf(text + n, sizeof text - (size_t)n, ", links %u",
+                 ruxtajma_links(s->answer));
+    return text;
 }
 
-/* All answer the same, and what is meant to be refused is refused so. */
-static void check(struct subject *s, uint64_t refusal)
+/* What is meant to be refused is refused so, and the rest is not. */
+static bool expected(const struct board *k, enum work work, uint64_t answer)
+{
+    if (work == ADDRESSES)
+        return answer != 0;
+    return (answer & 0xFFFF) == (work == EDIT_REFUSED ? 23 | 17 << 8
+                                 : k->pointer == NOWHERE ? 2 : 0);
+}
+
+/* All answer the same. */
+static void check(const struct board *k, struct subject *s)
 {
     s->answer = call_program(PLAIN_O2, s);
     for (int j = 0; j < PROGRAMS; j++) {
         uint64_t answer = call_program(j, s);
 
-        if (answer != s->answer || (answer & 0xFFFF) != refusal) {
-            fprintf(stderr, "%s, %zu bytes, work %d: program %d answers %llX\n",
-                    s->name, s->size, s->work, j, (unsigned long long)answer);
-            exit(1);
+        if (answer != s->answer || !expected(k, s->work, answer)) {
+            fprintf(stderr, "%s, %zu bytes: program %d answers %llX\n", label(s),
+                    s->size, j, (unsigned long long)answer);
+            exit(2);
         }
     }
+}
+
+/* A dump; or a table, with what lies behind it in the region of such a dump. */
+static void lay_out(const struct board *k, struct subject *s, uint32_t part)
+{
+    if (BIT(s->work) & DUMPS) {
+        s->size = dump_around(&b, k->dump / part, k->pointer, s->bytes);
+        return;
+    }
+    s->size = seal(&b, s->bytes);
+    if (k->dump > 0)
+        s->size = k->dump / part - TABLE_IN_DUMP;
 }
 
 static void make_subject(const struct board *k, enum work work, uint32_t part)
@@ -186,42 +225,50 @@ static void make_subject(const struct board *k, enum work work, uint32_t part)
 
     if (subject_count > SUBJECTS_MAX) {
         fprintf(stderr, "more than %d subjects\n", SUBJECTS_MAX);
-        exit(1);
+        exit(2);
     }
-    fill(k, part);
+    builder_start(&b, 0xFEE00000u);
+    k->make(&b, part);
     s->name = k->name;
     s->work = work;
-    s->full = (k->halved || k->dump > 0) && part == 1;
     s->room = sizeof room;
-    if (work == READ || work == LIST || work == LIST_FITTING)
-        s->size = dump_around(&b, k->dump / part, k->pointer, s->bytes);
-    else
-        s->size = seal(&b, s->bytes);
+    lay_out(k, s, part);
     switch (work) {
     case EDIT: case EDIT_REFUSED: ask_edit(s); break;
     case WRITE: ask_write(s); break;
-    case ROUTES: ask_routes(s); break;
+    case ROUTES: ask_routes(s, 3); break;
+    case LOCAL_ROUTES: ask_routes(s, 4); break;
     case ADDRESS: ask_address(s); break;
     case IO_ADDRESS: ask_io_address(s); break;
     default: break;
     }
-    check(s, expected(k, work));
+    check(k, s);
     if (work == LIST_FITTING) {
         s->room = ruxtajma_count(s->answer);
-        check(s, expected(k, work));
+        check(k, s);
     }
 }
 
-void make_subjects(void)
+static void make_all(bool doubled)
 {
     for (enum work work = 0; work < WORKS; work++)
         for (size_t i = 0; i < sizeof boards / sizeof boards[0]; i++) {
             const struct board *k = &boards[i];
 
-            if (!(k->works & BIT(work)))
+            if (!((doubled ? k->doubled : k->rows) & BIT(work)))
                 continue;
             make_subject(k, work, 1);
-            if (k->halved || k->dump > 0)
+            if (doubled)
                 make_subject(k, work, 2);
         }
+}
+
+void make_subjects(void)
+{
+    make_all(false);
+}
+
+void make_doubled(void)
+{
+    make_all(true);
 }

@@ -7,17 +7,19 @@
 #include <stdbool.h>
 
 enum { OURS, PLAIN_O2, PLAIN_O3, PROGRAMS };
-enum { SUBJECTS_MAX = 100, SUBJECT_ROOM = 65536, ROOM_SIZE = 1 << 17 };
+enum {
+    SUBJECTS_MAX = 100, SUBJECT_ROOM = 65536, ROOM_SIZE = 1 << 17,
+    LABEL_WIDTH = 67
+};
 
 enum work {
-    JUDGE, READ, LIST, LIST_FITTING, EDIT, EDIT_REFUSED, WRITE, ROUTES, ADDRESS,
-    IO_ADDRESS, WALK, WORKS
+    JUDGE, PARTS, READ, ADDRESSES, LIST, LIST_FITTING, EDIT, EDIT_REFUSED, WRITE,
+    ROUTES, LOCAL_ROUTES, ADDRESS, IO_ADDRESS, WALK, WORKS
 };
 
 struct subject {
     const char *name;
     enum work work;
-    bool full;                 /* the next subject is half of it */
     size_t size;
     uint64_t answer;
     uint8_t bytes[SUBJECT_ROOM];
@@ -30,21 +32,28 @@ struct subject {
     bool turn;                 /* the other way round */
 
     struct fields fields;      /* of a table to write */
-    size_t base_end;
+    size_t base_end, ext_end;
 
     /* Of a table to ask: where the interrupt comes from, or the address. */
     uint8_t type, bus, irq, kind;
     uint64_t address;
 
-    double time[PROGRAMS];     /* median, ns per call */
-    double ratio[PROGRAMS];    /* median of our time in this program's */
-    double growth[PROGRAMS];   /* and of the time in that for the half */
+    double ns[PROGRAMS];       /* of a call, median */
+    double ratio[PROGRAMS];    /* of our time to this program's, median */
 };
 
 extern struct subject subjects[SUBJECTS_MAX];
 extern size_t subject_count;
 
+/*
+ * The rows of speed; or those of growth, each subject before its half.  Ends the
+ * program with 2 where a subject is wrong, or the programs do not agree on it.
+ */
 void make_subjects(void);
+void make_doubled(void);
+
+/* What is done, to what; and how much the answer of a query holds. */
+const char *label(const struct subject *s);
 
 /* Where listings, images and pairs go. */
 extern uint8_t room[ROOM_SIZE];

@@ -18,9 +18,16 @@ static uint64_t write_table(const struct fields *f, const uint8_t *base,
                           f->oem_size, f->local_apic, f->reserved,
                           base, base_length, ext, ext_length, to, size);
 }
+#define take_apart ruxtajma_parts
 #else
 #define CALL(name) plain_##name
 #define write_table plain_write
+static uint64_t take_apart(const uint8_t *t, size_t n)
+{
+    struct parts p;
+
+    return plain_take_apart(t, n, &p);
+}
 #endif
 
 static uint64_t edit(struct subject *s)
@@ -47,16 +54,21 @@ uint64_t TIMED(struct subject *s)
 {
     switch (s->work) {
     case JUDGE: return CALL(judge)(s->bytes, s->size);
+    case PARTS: return take_apart(s->bytes, s->size);
     case READ: return CALL(read)(s->bytes, s->size);
+    case ADDRESSES: return CALL(addresses)(s->bytes, s->size);
     case LIST: case LIST_FITTING:
         return CALL(list)(s->bytes, s->size, room, s->room);
     case WRITE:
         return write_table(&s->fields, s->bytes + HEADER, s->base_end - HEADER,
-                           s->bytes + s->base_end, s->size - s->base_end,
+                           s->bytes + s->base_end, s->ext_end - s->base_end,
                            room, s->room);
     case ROUTES:
         return CALL(io_routes)(s->bytes, s->size, s->type, s->bus, s->irq,
                                room, s->room);
+    case LOCAL_ROUTES:
+        return CALL(local_routes)(s->bytes, s->size, s->type, s->bus, s->irq,
+                                  room, s->room);
     case ADDRESS: case IO_ADDRESS:
         return CALL(address)(s->bytes, s->size, s->bus, s->kind, s->address);
     case WALK: return walk(s);
