@@ -1,10 +1,11 @@
 -- The list of parents, and that the climb over marks and parents is mps's `climb`. Assumes nothing.
-use Prim.Native.Nat.{ℕ, zero, suc, _+_, _-_, _<_}
+use Prim.Native.Nat.{ℕ, zero, suc, _+_, _-_, _*_, _/_, _%_, _<_}
 use mathlib.Core.Path.{_≡_, refl, ap, sym, _∙_}
 use mathlib.Core.Bool.{Bool, true, false, cond, true≢false, false≢true}
 use mathlib.Core.Logic.{_⊎_, inl, inr}
 use mathlib.Core.List.{List, [], _∷_}
 use native.Mathlib.Numerals.{sub-one}
+use native.Mathlib.Omega.{arith}
 use lib.ListN.{length, set, length-set}
 use lib.Seq.{getD-set-same, getD-set-other}
 use lib.Dec.{eqb}
@@ -18,8 +19,8 @@ use Rattle.mps.specs.declared.Seen.the-variants.{No, Yes, Undeclared}
 use Rattle.laws.proofs.Tests.{whether, or-parts}
 use Rattle.laws.proofs.Small.{Bytes, Small, small-none, small-more, bytes-set}
 use Rattle.laws.proofs.Circle.{parentsOf-here, parentsOf-skip}
-use Rattle.marks.specs.Marks.{meaning}
-use Rattle.addresses.specs.Climbing.{parented, climbIn}
+use Rattle.marks.specs.Marks.{meaning, parented}
+use Rattle.addresses.specs.Climbing.{climbIn, ended}
 
 -- ---- Parents
 
@@ -120,6 +121,14 @@ own-answer (suc zero) climbed x y n = refl
 own-answer (suc (suc zero)) climbed x y n = absurd (n refl)
 own-answer (suc (suc (suc zero))) climbed x y n = refl
 own-answer (suc (suc (suc (suc mark)))) climbed x y n = refl
+
+-- A mark is a byte, so that the links are told from it.
+pub ended-at : (mark climbed : ℕ) → mark < 256 → ended (climbed * 256 + mark) ≡ answer (meaning mark) climbed (Undeclared climbed)
+unfolding ended
+ended-at mark climbed h =
+    let low : (climbed * 256 + mark) % 256 ≡ mark = omega arith in
+    let high : (climbed * 256 + mark) / 256 ≡ climbed = omega arith in
+    rw (low, high)
 
 -- The steps of the climb: no bus is left, the bus asks its parent, or it does not.
 module _ (marks parents : List ℕ) (bus at climbed : ℕ) (b : at ≡ bus) {r : Seen} where

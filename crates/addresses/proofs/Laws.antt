@@ -1,6 +1,6 @@
 -- What the address query answers of a table, between its places. Assumes nothing.
 use Prim.Native.Nat.{ℕ, zero, suc, _-_, _/_, _≤_, _<_}
-use mathlib.Core.Path.{_≡_, refl, ap, _∙_}
+use mathlib.Core.Path.{_≡_, refl, _∙_}
 use mathlib.Core.Bool.{true, false, or-true}
 use mathlib.Core.List.{List, [], _∷_}
 use native.Mathlib.Omega.{arith}
@@ -24,10 +24,10 @@ use Rattle.accepted.proofs.Sound.{entries-most}
 use Rattle.accepted.proofs.Obeyed.{obeyed}
 use Rattle.judge.specs.Placed.{Placed}
 use Rattle.judge.proofs.Laws.{placed-buses}
-use Rattle.marks.specs.Marks.{meaning, nothing, allMarked}
-use Rattle.addresses.specs.Climbing.{parented, climbIn}
+use Rattle.marks.specs.Marks.{nothing, allMarked, parented}
+use Rattle.marks.proofs.Marks.{marked-says, length-nothing}
+use Rattle.addresses.specs.Climbing.{climbIn}
 use Rattle.addresses.proofs.Links.{ids-fewer}
-use Rattle.marks.proofs.Marks.{says-highest, marked-types, length-nothing}
 use Rattle.addresses.proofs.Climbs.{parented-byte, bytes-parented, parent-linked, head-some, climb-in}
 
 -- ---- A table, between its places
@@ -51,7 +51,7 @@ module _ (t : List ℕ) (p : Sections) (placed : Placed t p) (a : tableRefusal t
       let ls = rows linkSize (part (p .links) (p .modifiers) t) in
       let mods = rows linkSize (part (p .modifiers) (p .others) t) in
       climbIn ((p .ioapics - p .buses) / entrySize - 1)
-      (allMarked kind address maps ls mods) (parented nothing ls) bus 0
+      (allMarked kind address nothing maps ls mods) (parented nothing ls) bus 0
       ≡ seenBy t bus kind address
   unfolding seenBy links
   seen-climb bus kind address h =
@@ -59,7 +59,7 @@ module _ (t : List ℕ) (p : Sections) (placed : Placed t p) (a : tableRefusal t
       let small = small-rows linkSize (part (p .links) (p .modifiers) t) (bytes-part (p .links) (p .modifiers) t (placed .bytes)) in
       rw (← placed .mappings, ← placed .links, ← placed .modifiers, ← placed-buses t p placed)
       (climb-in _ _ _ xs kind address
-      (λ b l. ap meaning (marked-types kind address nothing xs b (rw length-nothing l) (zeros-at 256 b)) ∙ says-highest xs b kind address)
+      (λ b l. marked-says kind address nothing xs b (rw length-nothing l) (zeros-at 256 b))
       (λ b l s. parented-byte nothing (links xs) b (rw length-nothing l) (obeyed t a .parents .one)
       ∙ head-some _ b (parentsOf (links xs) b) (parent-linked xs b kind address s))
       (bytes-parented nothing (λ i. rw (zeros-at 256 i) (omega arith)) (rw (placed .links) small))

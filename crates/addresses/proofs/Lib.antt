@@ -1,5 +1,4 @@
 pub mod Links
 pub mod Refuses
-pub mod Parents
 pub mod Climbs
 pub mod Laws

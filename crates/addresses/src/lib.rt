@@ -4,8 +4,9 @@
 // specs/Climbing.antt. That the links climbed are at most the listed buses less one is proved in proofs/Links.antt
 // (`links-bound`).
 //
-// One pass over the entries gathers what each bus says of the address by itself (`marks`), and one over the links gathers the
-// parents; then the climb goes from bus to bus. So the cost is that of the table, however long the chain of parents is.
+// One pass over the entries gathers what each bus says of the address by itself, and its parent (`marks`); then the climb goes
+// from bus to bus. So the cost is that of the table, however long the chain of parents is. The climb lends on two arrays and
+// answers a number, so that it is a loop when it runs: a slice or an answer of two words would be copied at each bus.
 use marks::PARENT;
 use marks::SEES;
 use marks::UNDECLARED;
@@ -15,15 +16,14 @@ use mps::Seen;
 use mps::layout;
 ghost use mathlib.Core.Path.{_≡_};
 ghost use Prim.Native.Nat.{_+_, _≤_, _<_};
-ghost use lib.ListN.{length};
 ghost use Rattle.mps.specs.Layout.{mappingSize, linkSize};
 ghost use Rattle.mps.specs.Sections.{rows};
 ghost use Rattle.mps.specs.Judge.{tableRefusal};
 ghost use Rattle.mps.specs.Addresses.{answer, seen as isSeen};
 ghost use Rattle.mps.specs.declared.Seen.the-variants.{Undeclared};
 ghost use Rattle.judge.specs.Placed.{Placed};
-ghost use Rattle.marks.specs.Marks.{meaning, nothing, allMarked};
-ghost use Rattle.addresses.specs.Climbing.{parented, climbIn};
+ghost use Rattle.marks.specs.Marks.{meaning, nothing, allMarked, parented};
+ghost use Rattle.addresses.specs.Climbing.{climbIn, ended};
 
 pub fn seen(t: &[u8], bus: u8, kind: u8, address: u64) -> Seen
     ensures { λ r. ⌜ r ≡ isSeen (now (t .entry)) bus kind address ⌝ }
@@ -76,24 +76,21 @@ fn ask(
     left: usize,
 ) -> Seen
     requires { ⌜ left < 65535 ⌝ }
-    ensures { λ r. ⌜ r ≡ climbIn left (allMarked kind address (rows mappingSize (now (mappings .entry))) (rows linkSize (now (links .entry))) (rows linkSize (now (modifiers .entry)))) (parented nothing (rows linkSize (now (links .entry)))) bus 0 ⌝ }
+    ensures { λ r. ⌜ r ≡ climbIn left (allMarked kind address nothing (rows mappingSize (now (mappings .entry))) (rows linkSize (now (links .entry))) (rows linkSize (now (modifiers .entry)))) (parented nothing (rows linkSize (now (links .entry)))) bus 0 ⌝ }
 {
-    let marks = marks::gather(mappings, links, modifiers, kind, address);
+    let mut marks = [0; 256];
     let mut parents = [0; 256];
-    store_parents(&mut parents, links);
-    climb(&marks, &parents, bus, left, 0)
-}
-
-fn store_parents(parents: &mut [u8], s: &[u8])
-    requires { ⌜ length (now parents) ≡ 256 ⌝ }
-    ensures { λ _. ⌜ now (parents .exit) ≡ parented (now (parents .entry)) (rows linkSize (now (s .entry))) ⌝ }
-{
-    let mut at = 0;
-    while layout::LINK_SIZE <= s.len() - at {
-        let bus = numbers::wide(s[at + layout::EXTENDED_BUS]) as usize;
-        parents[bus] = s[at + layout::PARENT_BUS];
-        at += layout::LINK_SIZE;
-    }
+    marks::gather(
+        &mut marks,
+        &mut parents,
+        mappings,
+        links,
+        modifiers,
+        kind,
+        address,
+    );
+    let end = climb(&marks, &parents, bus, left, 0);
+    own((end % MARKS) as u8, end / MARKS)
 }
 
 // A bus's own answer: one that would ask on and cannot has none.
@@ -107,18 +104,29 @@ fn own(mark: u8, climbed: usize) -> Seen
     }
 }
 
+// The end of a climb is told as one number, of which the answer is made once: the mark of the bus in the low byte, the links
+// climbed above it.
+const MARKS: usize = 256;
+
+fn end_at(mark: u8, climbed: usize) -> usize
+    requires { ⌜ climbed ≤ 65535 ⌝ }
+    ensures { λ r. ⌜ ended r ≡ answer (meaning mark) climbed (Undeclared climbed) ⌝ }
+{
+    climbed * MARKS + numbers::wide(mark) as usize
+}
+
 // "the parent's answer, if the bus has the subtractive bit". `left` are the listed buses not visited yet; it falls.
-fn climb(marks: &[u8], parents: &[u8], bus: u8, left: usize, climbed: usize) -> Seen
-    requires { ⌜ (length (now marks) ≡ 256) × (length (now parents) ≡ 256) × (climbed + left ≤ 65535) ⌝ }
-    ensures { λ r. ⌜ r ≡ climbIn left (now (marks .entry)) (now (parents .entry)) bus climbed ⌝ }
+fn climb(marks: &[u8; 256], parents: &[u8; 256], bus: u8, left: usize, climbed: usize) -> usize
+    requires { ⌜ climbed + left ≤ 65535 ⌝ }
+    ensures { λ r. ⌜ ended r ≡ climbIn left (now (marks .entry)) (now (parents .entry)) bus climbed ⌝ }
 {
     let at = numbers::wide(bus) as usize;
     let mark = marks[at];
     if left == 0 {
-        return own(mark, climbed);
+        return end_at(mark, climbed);
     }
     if mark == PARENT {
         return climb(marks, parents, parents[at], left - 1, climbed + 1);
     }
-    own(mark, climbed)
+    end_at(mark, climbed)
 }

@@ -1,28 +1,26 @@
--- Laws of `claims`, `wrongBoot` and `misplaced`: what they say in the words of the rules, and what a loop meets at a
--- place. Assumes nothing.
-use Prim.Native.Nat.{ℕ, suc, _+_, _-_, _/_, _%_, _≤_, _<_}
+-- Laws of the two calls: an entry at a place, and what they find in the words of the rules. Assumes nothing.
+use Prim.Native.Nat.{ℕ, _+_, _-_, _*_, _/_, _%_, _≤_, _<_}
 use mathlib.Core.Path.{_≡_, refl, ap, sym, _∙_}
-use mathlib.Core.Bool.{Bool, true, false, not, _||_, _&&_, true≢false, or-true, or-false}
+use mathlib.Core.Bool.{Bool, true, false, not, cond, _||_, _&&_, or-assoc, or-comm, and-true, and-false}
 use mathlib.Core.List.{List, [], _∷_}
 use native.Mathlib.Omega.{arith}
-use native.Mathlib.Nat.{div-one, zero-add, add-zero}
+use native.Mathlib.Nat.{div-one, zero-add}
 use lib.Dec.{eqb}
 use lib.ListN.{length, getD, take, drop}
-use borrow.Author.Tests.{eq-eqb, ne-eqb, le-ltb, lt-ltb}
-use Rattle.mps.specs.Words.{bit, keep, every, each}
+use borrow.Author.Tests.{eq-eqb, ne-eqb, eqb-true, eqb-false}
+use Rattle.mps.specs.Words.{bit, part, among, twice, common, any, every, keep, each}
 use Rattle.mps.specs.Numbers.{le}
-use Rattle.mps.specs.Layout.{Entry, idOf, enabled, bootstrap}
+use Rattle.mps.specs.Layout.{Entry, idOf, enabled, bootstrap, everyone}
 use Rattle.mps.specs.Rules.{misplaced}
 use Rattle.mps.specs.Sections.{rows}
-use Rattle.laws.proofs.Tests.{whether}
-use Rattle.laws.proofs.Lists.{keep-in, keep-out}
+use Rattle.laws.proofs.Tests.{eqb-comm, whether, same-test, or-parts, or-four}
+use Rattle.laws.proofs.Lists.{keep-in, keep-out, any-keep}
 use Rattle.laws.proofs.Rows.{rows-done, rows-next, row-byte}
-use Rattle.numbers.proofs.Laws.{le-row}
-use Rattle.sets.specs.declared.Numbers.{Numbers}
-use Rattle.sets.specs.Sets.{putAll, noNumbers, holds, withNumber}
-use Rattle.sets.proofs.Laws.{twiceIn}
-use Rattle.apics.specs.declared.Claimed.{Claimed}
-use Rattle.apics.specs.Apics.{claims, flagged, claimed, wrongBoot}
+use Rattle.laws.proofs.Small.{Small, small-keep, below-each}
+use Rattle.roll.specs.Roll.{marked, withMarks, Shows}
+use Rattle.roll.specs.Calls.{wrongOne, called}
+use Rattle.roll.proofs.Laws.{called-stop-at, called-next-at, called-wrong, called-marks, called-all, called-other, any-shows}
+use Rattle.apics.specs.Apics.{processorCall, ioApicCall, wrongProcessorsIn}
 
 -- ---- The flags of a row are those of the slice
 
@@ -31,199 +29,219 @@ module _ (n : ℕ) (s : List ℕ) (at : ℕ) (f : 4 ≤ n) where
   unfolding bit
   row-enabled = rw (row-byte n s at 3 (omega arith), div-one)
 
-  pub row-bootstrap : bootstrap (take n (drop at s)) ≡ eqb (getD s (at + 3) 0 / 2 % 2) 1
+  row-bootstrap : bootstrap (take n (drop at s)) ≡ eqb (getD s (at + 3) 0 / 2 % 2) 1
   unfolding bit
   row-bootstrap = rw (row-byte n s at 3 (omega arith))
 
--- ---- claims
+-- The marks that an entry puts: bit 1 beside its own where it is enabled.
+marks-by : (own f : ℕ) → own + f % 2 * 2 ≡ cond (eqb (f % 2) 1) (own + 2) own
+marks-by own f =
+    whether (eqb (f % 2) 1)
+    (λ on. let odd = eqb-true (f % 2) 1 on in rw (on, odd))
+    (λ off. let even = eqb-false (f % 2) 1 off in rw off (omega (arith, even)))
 
-module _ (taken all : Numbers) (e : Entry) (es : List Entry) where
-  -- A disabled entry, an enabled one whose ID is taken, and one whose ID is free.
-  pub claims-disabled : enabled e ≡ false → claims taken all (e ∷ es) ≡ claims taken (withNumber all (idOf e)) es
-  unfolding claims
-  claims-disabled p = rw (p, claims)
+-- ---- A processor at a place of a slice
 
-  pub claims-stop :
-      enabled e ≡ true → holds taken (idOf e) ≡ true
-      → claims taken all (e ∷ es) ≡ record { twice = true; taken = taken; all = withNumber all (idOf e) }
-  unfolding claims
-  claims-stop p h = rw (p, claims, h)
+-- The bootstrap bit without the enabled one.
+boots-only : (f : ℕ) → eqb (f % 4) 2 ≡ (eqb (f / 2 % 2) 1 && not (eqb (f % 2) 1))
+boots-only f =
+    whether (eqb (f % 2) 1)
+    (λ on. let odd = eqb-true (f % 2) 1 on in rw (on, ne-eqb (f % 4) 2 (λ q. omega (arith, q, odd))) (sym (and-false (eqb (f / 2 % 2) 1))))
+    (λ off. let even = eqb-false (f % 2) 1 off in
+    rw off (same-test (eqb (f % 4) 2) (eqb (f / 2 % 2) 1 && true)
+    (λ q. let e = eqb-true (f % 4) 2 q in rw (eq-eqb (f / 2 % 2) 1 (omega (arith, e))))
+    (λ q. let e = eqb-true (f / 2 % 2) 1 (sym (and-true (eqb (f / 2 % 2) 1)) ∙ q) in eq-eqb (f % 4) 2 (omega (arith, e, even)))))
 
-  pub claims-free :
-      enabled e ≡ true → holds taken (idOf e) ≡ false
-      → claims taken all (e ∷ es) ≡ claims (withNumber taken (idOf e)) (withNumber all (idOf e)) es
-  unfolding claims
-  claims-free p h = rw (p, claims, h)
+module _ (roll s : List ℕ) (at : ℕ) where
+  pub processor-at :
+      {b : Bool} → b ≡ marked 1 roll (getD s (at + 1) 0)
+      → (eqb (getD s (at + 3) 0 % 4) 2 || (eqb (getD s (at + 3) 0 % 2) 1 && b)) ≡ wrongOne processorCall roll (take 20 (drop at s))
+  unfolding wrongOne processorCall
+  processor-at {b} e =
+      let f = getD s (at + 3) 0 in
+      rw (e, row-enabled 20 s at (omega arith), row-bootstrap 20 s at (omega arith), row-byte 20 s at 1 (omega arith), boots-only f)
+      (or-comm (eqb (f / 2 % 2) 1 && not (eqb (f % 2) 1)) (eqb (f % 2) 1 && marked 1 roll (getD s (at + 1) 0)))
 
--- An entry is one of the three.
-entry-cases :
-    {C : Type 0} (taken : Numbers) (e : Entry) → (enabled e ≡ false → C) → (enabled e ≡ true → holds taken (idOf e) ≡ true → C)
-    → (enabled e ≡ true → holds taken (idOf e) ≡ false → C) → C
-entry-cases taken e off stop free = whether (enabled e) (λ p. whether (holds taken (idOf e)) (stop p) (free p)) off
+-- ---- An I/O APIC
 
--- Whether an enabled entry's ID is taken when it is met.
-pub claims-twice : (taken all : Numbers) (es : List Entry) → claims taken all es .twice ≡ twiceIn taken (each idOf (keep enabled es))
-unfolding claims keep each twiceIn
-claims-twice taken all [] = refl
-claims-twice taken all (e ∷ es) =
-    let put = withNumber all (idOf e) in
-    entry-cases taken e
-    (λ p. rw (p, claims, keep) (claims-twice taken put es))
-    (λ p h. rw (p, claims, h, keep, twiceIn))
-    (λ p h. rw (p, claims, h, keep, twiceIn) (claims-twice (withNumber taken (idOf e)) put es))
+module _ (roll e : List ℕ) where
+  on : (getD e 3 0 % 2 ≡ 0 → ⊥) → enabled e ≡ true
+  unfolding bit
+  on n = rw div-one (eq-eqb (getD e 3 0 % 2) 1 (omega (arith, n)))
 
--- Where none is, every ID is in its set.
-pub claims-whole :
-    (taken all : Numbers) (es : List Entry) → claims taken all es .twice ≡ false
-    → claims taken all es ≡ record { twice = false; taken = putAll taken (each idOf (keep enabled es)); all = putAll all (each idOf es) }
-unfolding claims keep each putAll
-claims-whole taken all [] n = refl
-claims-whole taken all (e ∷ es) n =
-    let put = withNumber all (idOf e) in
-    entry-cases taken e
-    (λ p. rw (p, claims, keep) (claims-whole taken put es (rw (p, claims) at n)))
-    (λ p h. absurd (true≢false (sym (ap (λ (c : Claimed). c .twice) (claims-stop taken all e es p h)) ∙ n)))
-    (λ p h. rw (p, claims, h, keep) (claims-whole (withNumber taken (idOf e)) put es (rw (p, claims, h) at n)))
+  pub io-off : getD e 3 0 % 2 ≡ 0 → false ≡ wrongOne ioApicCall roll e
+  unfolding wrongOne ioApicCall bit
+  io-off z = rw (div-one, ne-eqb (getD e 3 0 % 2) 1 (λ q. omega (arith, q, z)))
 
--- ---- claimed
+  module _ (n : getD e 3 0 % 2 ≡ 0 → ⊥) {b : Bool} (t : b ≡ marked 1 roll (getD e 1 0)) where
+    pub io-taken : b ≡ true → true ≡ wrongOne ioApicCall roll e
+    unfolding wrongOne ioApicCall
+    io-taken y = rw (on n, ← t, y)
 
-pub claimed-rows : (n : ℕ) (taken : Numbers) (s : List ℕ) → 4 ≤ n → claimed n taken s ≡ claims taken noNumbers (rows n s)
-unfolding claimed flagged
-claimed-rows n taken s h = rw (le-ltb n 4 h, flagged)
+    pub io-free : b ≡ false → {a : ℕ} → a ≡ le 4 e 4 → (eqb a 0 || not (eqb (a % 1024) 0)) ≡ wrongOne ioApicCall roll e
+    unfolding wrongOne ioApicCall misplaced
+    io-free y q = rw (on n, ← t, y, ← q)
 
--- The same of the rows of a slice.
-module _ (n : ℕ) (taken : Numbers) (s : List ℕ) (f : 4 ≤ n) where
-  pub claimed-twice : claimed n taken s .twice ≡ twiceIn taken (each idOf (keep enabled (rows n s)))
-  claimed-twice = rw (claimed-rows n taken s f) (claims-twice taken noNumbers (rows n s))
+-- ---- The calls at a place of a slice: the row there is wrong, or its marks are put
 
-  module _ (free : claimed n taken s .twice ≡ false) where
-    whole :
-        claimed n taken s
-        ≡ record { twice = false; taken = putAll taken (each idOf (keep enabled (rows n s))); all = putAll noNumbers (each idOf (rows n s)) }
-    whole = rw (claimed-rows n taken s f) (claims-whole taken noNumbers (rows n s) (rw (claimed-rows n taken s f) at free))
+module _ (roll s : List ℕ) (at : ℕ) (h : at ≤ length s) where
+  pub processor-next :
+      {next : List ℕ} → 20 ≤ length s - at → {b : Bool} → b ≡ wrongOne processorCall roll (take 20 (drop at s)) → b ≡ false
+      → next ≡ withMarks (1 + getD s (at + 3) 0 % 2 * 2) roll (getD s (at + 1) 0)
+      → called processorCall roll (rows 20 (drop at s)) ≡ called processorCall next (rows 20 (drop (at + 20) s))
+  unfolding processorCall
+  processor-next r w n e =
+      called-next-at processorCall roll 20 s at h (omega arith) r (sym w ∙ n)
+      (e ∙ rw (row-enabled 20 s at (omega arith), row-byte 20 s at 1 (omega arith), marks-by 1 (getD s (at + 3) 0)))
 
-    pub claimed-taken : claimed n taken s .taken ≡ putAll taken (each idOf (keep enabled (rows n s)))
-    claimed-taken = ap (λ (c : Claimed). c .taken) whole
+  -- The row of eight bytes as it is lent.
+  module _ (r : 8 ≤ length s - at) where
+    lent : part at (at + 8) s ≡ take 8 (drop at s)
+    lent = let width : at + 8 - at ≡ 8 = omega arith in rw width
 
-    pub claimed-all : claimed n taken s .all ≡ putAll noNumbers (each idOf (rows n s))
-    claimed-all = ap (λ (c : Claimed). c .all) whole
+    pub io-stop :
+        {b : Bool} → b ≡ wrongOne ioApicCall roll (part at (at + 8) s) → b ≡ true
+        → called ioApicCall roll (rows 8 (drop at s)) ≡ record { wrong = true; roll = roll }
+    io-stop w y = called-stop-at ioApicCall roll 8 s at h (omega arith) r (rw lent at (sym w ∙ y))
 
--- Of entries without flags nothing is claimed.
-pub claimed-none :
-    (n : ℕ) (taken all : Numbers) (s : List ℕ) → n < 4 → all ≡ noNumbers
-    → record { twice = false; taken = taken; all = all } ≡ claimed n taken s
-unfolding claimed flagged claims
-claimed-none n taken all s h e = rw (e, lt-ltb n 4 h, flagged)
+    pub io-next :
+        {next : List ℕ} {b : Bool} → b ≡ wrongOne ioApicCall roll (part at (at + 8) s) → b ≡ false
+        → next ≡ withMarks (4 + getD (part at (at + 8) s) 3 0 % 2 * 2) roll (getD (part at (at + 8) s) 1 0)
+        → called ioApicCall roll (rows 8 (drop at s)) ≡ called ioApicCall next (rows 8 (drop (at + 8) s))
+    unfolding ioApicCall bit
+    io-next w n e =
+        called-next-at ioApicCall roll 8 s at h (omega arith) r (rw lent at (sym w ∙ n))
+        (e ∙ rw (lent, marks-by 4 (getD (take 8 (drop at s)) 3 0), div-one))
 
--- From place `at` on: no whole row is left, or the row there is disabled, or enabled with an ID that is taken or free.
-module _ (taken all : Numbers) (n : ℕ) (s : List ℕ) (at : ℕ) where
-  pub claims-done :
-      at ≤ length s → length s - at < n → claims taken all (rows n (drop at s)) ≡ record { twice = false; taken = taken; all = all }
-  unfolding claims
-  claims-done h f = rw (rows-done n s at h f)
+-- ---- How many bootstrap processors there are
 
-  module _ (f : 4 ≤ n) (h : at ≤ length s) (r : n ≤ length s - at) where
-    pub disabled-at :
-        (getD s (at + 3) 0 % 2 ≡ 1 → ⊥)
-        → claims taken all (rows n (drop at s)) ≡ claims taken (withNumber all (getD s (at + 1) 0)) (rows n (drop (at + n) s))
-    disabled-at p =
-        let off = row-enabled n s at f ∙ ne-eqb _ _ p in
-        rw (rows-next n s at (omega arith) h r, ← row-byte n s at 1 (omega arith))
-        (claims-disabled taken all (take n (drop at s)) (rows n (drop (at + n) s)) off)
+-- From a place on.
+abbrev pub bootsFrom : List ℕ → ℕ → ℕ
+bootsFrom s at = length (keep bootstrap (rows 20 (drop at s)))
 
-    pub taken-at :
-        getD s (at + 3) 0 % 2 ≡ 1 → holds taken (getD s (at + 1) 0) ≡ true
-        → claims taken all (rows n (drop at s)) ≡ record { twice = true; taken = taken; all = withNumber all (getD s (at + 1) 0) }
-    taken-at p t =
-        let on = row-enabled n s at f ∙ eq-eqb _ _ p in
-        let id = row-byte n s at 1 (omega arith) in
-        rw (rows-next n s at (omega arith) h r, ← id)
-        (claims-stop taken all (take n (drop at s)) (rows n (drop (at + n) s)) on (rw id t))
+module _ (s : List ℕ) (at : ℕ) (h : at ≤ length s) where
+  pub boots-done : length s - at < 20 → bootsFrom s at ≡ 0
+  unfolding keep
+  boots-done f = rw (rows-done 20 s at h f)
 
-    pub free-at :
-        getD s (at + 3) 0 % 2 ≡ 1 → holds taken (getD s (at + 1) 0) ≡ false
-        → claims taken all (rows n (drop at s))
-        ≡ claims (withNumber taken (getD s (at + 1) 0)) (withNumber all (getD s (at + 1) 0)) (rows n (drop (at + n) s))
-    free-at p t =
-        let on = row-enabled n s at f ∙ eq-eqb _ _ p in
-        let id = row-byte n s at 1 (omega arith) in
-        rw (rows-next n s at (omega arith) h r, ← id)
-        (claims-free taken all (take n (drop at s)) (rows n (drop (at + n) s)) on (rw id t))
+  pub boots-next : 20 ≤ length s - at → {x : ℕ} → x ≡ getD s (at + 3) 0 / 2 % 2 → x + bootsFrom s (at + 20) ≡ bootsFrom s at
+  boots-next r {x} e =
+      let f = getD s (at + 3) 0 in
+      let row = take 20 (drop at s) in
+      let rest = rows 20 (drop (at + 20) s) in
+      whether (eqb (f / 2 % 2) 1)
+      (λ on. let one = eqb-true (f / 2 % 2) 1 on in
+      rw (rows-next 20 s at (omega arith) h r, keep-in bootstrap row rest (row-bootstrap 20 s at (omega arith) ∙ on), e, one) (omega arith))
+      (λ off. let no = eqb-false (f / 2 % 2) 1 off in let none : f / 2 % 2 ≡ 0 = omega (arith, no) in
+      rw (rows-next 20 s at (omega arith) h r, keep-out bootstrap row rest (row-bootstrap 20 s at (omega arith) ∙ off), e, none, zero-add))
 
--- ---- wrongBoot
+module _ (roll₀ : List ℕ) (ps : List Entry) {roll : List ℕ} where
+  pub wrong-stop :
+      called processorCall roll₀ ps ≡ record { wrong = true; roll = roll }
+      → (true ≡ wrongProcessorsIn roll₀ ps) × (roll ≡ called processorCall roll₀ ps .roll)
+  unfolding wrongProcessorsIn
+  wrong-stop e = (rw e, rw e)
 
--- The rule, where n bootstrap processors were met before.
-unfoldable pub bootAfter : ℕ → List Entry → Bool
-bootAfter n ps = not (eqb (n + length (keep bootstrap ps)) 1) || not (every enabled (keep bootstrap ps))
+  pub wrong-done :
+      called processorCall roll₀ ps ≡ record { wrong = false; roll = roll } → {n : ℕ} → n ≡ length (keep bootstrap ps)
+      → (not (eqb n 1) ≡ wrongProcessorsIn roll₀ ps) × (roll ≡ called processorCall roll₀ ps .roll)
+  unfolding wrongProcessorsIn
+  wrong-done e q = (rw (e, q), rw e)
 
-pub boot-start : (ps : List Entry) → bootAfter 0 ps ≡ wrongBoot ps
-unfolding bootAfter wrongBoot
-boot-start ps = rw zero-add
+-- ---- In the words of the rules
 
--- From place `at` on: no whole row is left, or the row there is no bootstrap processor, or it is one: disabled, a second
--- one, or the first.
-module _ (n : ℕ) (s : List ℕ) (at : ℕ) (h : at ≤ length s) where
-  pub boot-done : length s - at < 20 → bootAfter n (rows 20 (drop at s)) ≡ not (eqb n 1)
-  unfolding bootAfter keep every
-  boot-done f = rw (rows-done 20 s at h f, add-zero, or-false)
+-- Whether some ID of a list is 255 or one of those of another.
+any-taken : (cs ids : List ℕ) → any (λ (y : ℕ). among y cs || eqb y everyone) ids ≡ (common ids cs || among everyone ids)
+unfolding any common among
+any-taken cs [] = refl
+any-taken cs (x ∷ ids) = rw (any-taken cs ids, eqb-comm x everyone) (or-four (among x cs) (eqb everyone x) (common ids cs) (among everyone ids))
 
-  module _ (r : 20 ≤ length s - at) where
-    pub boot-other :
-        (getD s (at + 3) 0 / 2 % 2 ≡ 1 → ⊥) → bootAfter n (rows 20 (drop at s)) ≡ bootAfter n (rows 20 (drop (at + 20) s))
-    unfolding bootAfter
-    boot-other p =
-        let out = row-bootstrap 20 s at (omega arith) ∙ ne-eqb _ _ p in
-        rw (rows-next 20 s at (omega arith) h r, keep-out bootstrap (take 20 (drop at s)) (rows 20 (drop (at + 20) s)) out)
+-- Whether a bootstrap processor is disabled.
+boot-off : (ps : List Entry) → any (λ (e : Entry). bootstrap e && not (enabled e)) ps ≡ not (every enabled (keep bootstrap ps))
+unfolding any every keep
+boot-off [] = refl
+boot-off (e ∷ ps) =
+    whether (bootstrap e)
+    (λ b. whether (enabled e) (λ o. rw (b, o, keep) (boot-off ps)) (λ o. rw (b, o, keep)))
+    (λ b. rw (b, keep) (boot-off ps))
 
-    module _ (p : getD s (at + 3) 0 / 2 % 2 ≡ 1) where
-      -- How many are behind it.
-      abbrev more : ℕ
-      more = length (keep bootstrap (rows 20 (drop (at + 20) s)))
+-- A bit of what an entry puts, enabled or not: the same either way, or only where it is enabled.
+bit-same : (k a b : ℕ) {v : Bool} → bit k a ≡ v → bit k b ≡ v → (t : Bool) → bit k (cond t a b) ≡ v
+bit-same k a b p q true = p
+bit-same k a b p q false = q
 
-      kept : keep bootstrap (rows 20 (drop at s)) ≡ take 20 (drop at s) ∷ keep bootstrap (rows 20 (drop (at + 20) s))
-      kept =
-          rw (rows-next 20 s at (omega arith) h r)
-          (keep-in bootstrap (take 20 (drop at s)) (rows 20 (drop (at + 20) s)) (row-bootstrap 20 s at (omega arith) ∙ eq-eqb _ _ p))
+bit-on : (k a b : ℕ) → bit k a ≡ true → bit k b ≡ false → (t : Bool) → bit k (cond t a b) ≡ t
+bit-on k a b p q true = p
+bit-on k a b p q false = q
 
-      pub boot-disabled : getD s (at + 3) 0 % 2 ≡ 0 → bootAfter n (rows 20 (drop at s)) ≡ true
-      unfolding bootAfter every
-      boot-disabled q =
-          let off = row-enabled 20 s at (omega arith) ∙ ne-eqb (getD s (at + 3) 0 % 2) 1 (omega arith) in
-          rw (kept, off) (or-true (not (eqb (n + suc more) 1)))
+-- Tests in the order of the rules.
+cpu-order : (a t b n : Bool) → (((a || t) || b) || n) ≡ (((n || b) || a) || t)
+cpu-order a t b n =
+    or-comm ((a || t) || b) n ∙ ap (λ (x : Bool). n || x) (or-comm (a || t) b) ∙ sym (or-assoc n b (a || t)) ∙ sym (or-assoc (n || b) a t)
 
-      pub boot-second : n ≡ 1 → bootAfter n (rows 20 (drop at s)) ≡ true
-      unfolding bootAfter
-      boot-second e = rw (kept, e, ne-eqb (1 + suc more) 1 (omega arith))
+io-order : (c a t m : Bool) → (((c || a) || t) || m) ≡ (((a || t) || c) || m)
+io-order c a t m = ap (λ (x : Bool). x || m) (or-assoc c a t ∙ or-comm c (a || t))
 
-      pub boot-first :
-          (getD s (at + 3) 0 % 2 ≡ 0 → ⊥) → n ≡ 0 → bootAfter n (rows 20 (drop at s)) ≡ bootAfter 1 (rows 20 (drop (at + 20) s))
-      unfolding bootAfter every
-      boot-first q e =
-          let on = row-enabled 20 s at (omega arith) ∙ eq-eqb (getD s (at + 3) 0 % 2) 1 (omega arith) in
-          let count : 0 + suc more ≡ 1 + more = omega arith in
-          rw (kept, on, e, count)
+common-none : (ids : List ℕ) → common ids [] ≡ false
+unfolding common among
+common-none [] = refl
+common-none (x ∷ ids) = common-none ids
 
--- ---- misplaced
+-- Entries of bytes, over a roll where 255 is taken, and the IDs of cs are.
+module _ (roll : List ℕ) (size : length roll ≡ 256) (es : List Entry) (small : Small es) where
+  -- The IDs of those that are enabled.
+  abbrev ids : List ℕ
+  ids = each idOf (keep enabled es)
 
--- Enabled and misplaced.
-abbrev pub lost : Entry → Bool
-lost e = enabled e && misplaced e
+  taken-or : (cs : List ℕ) → Shows 1 roll (λ (y : ℕ). among y cs || eqb y everyone) → any (marked 1 roll) ids ≡ (common ids cs || among everyone ids)
+  taken-or cs taken = any-shows 1 roll _ taken ids (below-each 1 (small-keep enabled small)) ∙ any-taken cs ids
 
--- The row at a place: disabled, or enabled with the address a, which is 0, no multiple of 1,024, or neither.
-module _ (s : List ℕ) (at : ℕ) where
-  pub lost-disabled : (getD s (at + 3) 0 % 2 ≡ 1 → ⊥) → lost (take 8 (drop at s)) ≡ false
-  lost-disabled p = rw (row-enabled 8 s at (omega arith), ne-eqb _ _ p)
+  pub cpus-wrong :
+      Shows 1 roll (λ (y : ℕ). among y [] || eqb y everyone)
+      → wrongProcessorsIn roll es
+      ≡ (not (eqb (length (keep bootstrap es)) 1) || not (every enabled (keep bootstrap es)) || among everyone ids || twice ids)
+  unfolding wrongProcessorsIn processorCall bit
+  cpus-wrong taken =
+      rw (called-wrong processorCall (λ (e : Entry). bit-on 1 3 1 refl refl (enabled e)) roll size es small, taken-or [] taken, common-none ids, boot-off es)
+      (cpu-order (among everyone ids) (twice ids) (not (every enabled (keep bootstrap es))) (not (eqb (length (keep bootstrap es)) 1)))
 
-  module _ (a : ℕ) (p : getD s (at + 3) 0 % 2 ≡ 1) (e : a ≡ le 4 s (at + 4)) where
-    lost-by : lost (take 8 (drop at s)) ≡ (eqb a 0 || not (eqb (a % 1024) 0))
-    unfolding misplaced
-    lost-by = rw (row-enabled 8 s at (omega arith), eq-eqb _ _ p, le-row 4 8 s at 4 (omega arith), ← e)
+  pub ios-wrong :
+      (cs : List ℕ) → Shows 1 roll (λ (y : ℕ). among y cs || eqb y everyone)
+      → called ioApicCall roll es .wrong ≡ (among everyone ids || twice ids || common ids cs || any misplaced (keep enabled es))
+  unfolding ioApicCall bit
+  ios-wrong cs taken =
+      rw (called-wrong ioApicCall (λ (e : Entry). bit-on 1 6 4 refl refl (enabled e)) roll size es small, taken-or cs taken, ← any-keep misplaced enabled es)
+      (io-order (common ids cs) (among everyone ids) (twice ids) (any misplaced (keep enabled es)))
 
-    pub lost-nowhere : a ≡ 0 → lost (take 8 (drop at s)) ≡ true
-    lost-nowhere z = lost-by ∙ simp (eq-eqb _ _ z)
+-- The roll behind processors of which none is wrong.
+module _ (roll : List ℕ) (size : length roll ≡ 256) (es : List Entry) (fine : wrongProcessorsIn roll es ≡ false) (y : ℕ) (h : y < 256) where
+  passed : called processorCall roll es .wrong ≡ false
+  unfolding wrongProcessorsIn
+  passed = or-parts (called processorCall roll es .wrong) (not (eqb (length (keep bootstrap es)) 1)) fine .0
 
-    pub lost-between : (a % 1024 ≡ 0 → ⊥) → lost (take 8 (drop at s)) ≡ true
-    lost-between n = lost-by ∙ rw (ne-eqb _ _ n) (or-true (eqb a 0))
+  place : y < length roll
+  place = rw size h
 
-    pub lost-not : (a ≡ 0 → ⊥) → a % 1024 ≡ 0 → lost (take 8 (drop at s)) ≡ false
-    lost-not z n = lost-by ∙ simp (ne-eqb _ _ z, eq-eqb _ _ n)
+  pub cpus-listed : marked 0 (called processorCall roll es .roll) y ≡ (among y (each idOf es) || marked 0 roll y)
+  unfolding processorCall bit
+  cpus-listed = called-all processorCall 0 roll es passed y place (λ (e : Entry). bit-same 0 3 1 refl refl (enabled e))
+
+  pub cpus-taken : marked 1 (called processorCall roll es .roll) y ≡ (among y (each idOf (keep enabled es)) || marked 1 roll y)
+  unfolding processorCall bit
+  cpus-taken = called-marks processorCall 1 enabled (λ (e : Entry). bit-on 1 3 1 refl refl (enabled e)) roll es passed y place
+
+  -- A bit that processors do not put.
+  pub cpus-keep : (j : ℕ) → bit j 3 ≡ false → bit j 1 ≡ false → marked j (called processorCall roll es .roll) y ≡ marked j roll y
+  unfolding processorCall
+  cpus-keep j p q = called-other processorCall j roll es passed y place (λ (e : Entry). bit-same j 3 1 p q (enabled e))
+
+-- The roll behind I/O APICs of which none is wrong.
+module _ (roll : List ℕ) (size : length roll ≡ 256) (es : List Entry) (fine : called ioApicCall roll es .wrong ≡ false) (y : ℕ) (h : y < 256) where
+  pub ios-listed : marked 2 (called ioApicCall roll es .roll) y ≡ (among y (each idOf es) || marked 2 roll y)
+  unfolding ioApicCall bit
+  ios-listed = called-all ioApicCall 2 roll es fine y (rw size h) (λ (e : Entry). bit-same 2 6 4 refl refl (enabled e))
+
+  -- A bit that I/O APICs do not put.
+  pub ios-keep : (j : ℕ) → bit j 6 ≡ false → bit j 4 ≡ false → marked j (called ioApicCall roll es .roll) y ≡ marked j roll y
+  unfolding ioApicCall
+  ios-keep j p q = called-other ioApicCall j roll es fine y (rw size h) (λ (e : Entry). bit-same j 6 4 p q (enabled e))

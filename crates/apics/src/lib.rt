@@ -1,103 +1,75 @@
-// What processors and I/O APICs must say: the parts of refusals 14 and 16 that need the entries alone.
+// What processors and I/O APICs must say: refusal 14 but for the local APIC address, and refusal 16.
 //
-// Each function goes once over the entries of one type, as the bytes that they are, one behind the other; bytes that
-// are left at the end and are no whole entry are not looked at. Promised: `claim` answers `claimed`, of
-// specs/Apics.antt, `wrong_boot` answers `wrongBoot` of the same file, and `misplaced` answers whether an enabled entry
-// is `misplaced`, of mps's specs/Rules.antt, on any bytes. proofs/Laws.antt says what `claimed` means in the words of
-// the rules, and how its sets are read.
+// Each public function calls the entries of one type over the roll, in one pass over the bytes that they are, one behind the
+// other; bytes that are left at the end and are no whole entry are not looked at. Promised of any roll and any bytes:
+// `wrong_processors` answers `wrongProcessorsIn` and `wrong_io_apics` whether the call `ioApicCall` finds a wrong one; each
+// leaves the roll that its call leaves. The calls stand in specs/Apics.antt.
 use mps::layout;
-use sets::Numbers;
 ghost use mathlib.Core.Path.{_≡_};
-ghost use Rattle.mps.specs.Words.{keep, any};
-ghost use Rattle.mps.specs.Layout.{enabled, processorSize, entrySize};
-ghost use Rattle.mps.specs.Rules.{misplaced as isMisplaced};
+ghost use Prim.Native.Nat.{_+_, _≤_};
+ghost use lib.ListN.{length, take, drop};
+ghost use Rattle.mps.specs.Layout.{processorSize, entrySize};
 ghost use Rattle.mps.specs.Sections.{rows};
-ghost use Rattle.apics.specs.Apics.{claimed, wrongBoot};
+ghost use Rattle.roll.specs.Calls.{wrongOne, called};
+ghost use Rattle.apics.specs.Apics.{processorCall, ioApicCall, wrongProcessorsIn};
 
-// The IDs that entries claim. `taken` are those of enabled APICs, with what it began with; `all` are those of every
-// entry met, enabled or not. `twice` tells that an enabled one's ID was taken already; both sets then end there.
-pub struct Claimed {
-    pub twice: bool,
-    pub taken: Numbers,
-    pub all: Numbers,
+// A disabled bootstrap processor, or an enabled one whose ID is taken.
+fn wrong_processor(s: &[u8], at: usize, roll: &[u8; 256]) -> bool
+    requires { ⌜ at + processorSize ≤ length (now s) ⌝ }
+    ensures { λ r. ⌜ r ≡ wrongOne processorCall (now (roll .entry)) (take processorSize (drop at (now (s .entry)))) ⌝ }
+{
+    let flags = s[at + layout::APIC_FLAGS];
+    (flags % 4 == 2) | ((flags % 2 == 1) & roll::has(roll, s[at + layout::ENTRY_ID], roll::TAKEN))
 }
 
-// Entries of `size` bytes, 20 for processors and 8 for I/O APICs; an entry of fewer than 4 has no flags, and none is
-// looked at. `taken` is given so that a caller can begin with 255, which no enabled APIC may have, and go on from the
-// processors' IDs to the I/O APICs.
-pub fn claim(s: &[u8], size: usize, taken: Numbers) -> Claimed
-    ensures { λ r. ⌜ r ≡ claimed size taken (now (s .entry)) ⌝ }
+// Whether one of the processors is wrong, or not exactly one is the bootstrap processor.
+pub fn wrong_processors(roll: &mut [u8; 256], s: &[u8]) -> bool
+    ensures { λ r. ⌜ r ≡ wrongProcessorsIn (now (roll .entry)) (rows processorSize (now (s .entry))) ⌝ }
+    ensures { λ _. ⌜ now (roll .exit) ≡ called processorCall (now (roll .entry)) (rows processorSize (now (s .entry))) .roll ⌝ }
 {
-    let mut taken = taken;
-    let mut all = sets::empty();
-    if size < 4 {
-        return Claimed {
-            twice: false,
-            taken,
-            all,
-        };
-    }
-    let mut at = 0;
-    while size <= s.len() - at {
-        let id = s[at + layout::ENTRY_ID];
-        let flags = s[at + layout::APIC_FLAGS];
-        all = sets::put(all, id);
-        if flags % 2 == 1 {
-            if sets::contains(taken, id) {
-                return Claimed {
-                    twice: true,
-                    taken,
-                    all,
-                };
-            }
-            taken = sets::put(taken, id);
-        }
-        at += size;
-    }
-    Claimed {
-        twice: false,
-        taken,
-        all,
-    }
-}
-
-// Of processors: whether not exactly one is the bootstrap processor, or that one is disabled.
-pub fn wrong_boot(s: &[u8]) -> bool
-    ensures { λ r. ⌜ r ≡ wrongBoot (rows processorSize (now (s .entry))) ⌝ }
-{
-    let mut found: u8 = 0;
+    let mut boots: u64 = 0;
     let mut at = 0;
     while layout::PROCESSOR_SIZE <= s.len() - at {
-        let flags = s[at + layout::APIC_FLAGS];
-        if flags / 2 % 2 == 1 {
-            if flags % 2 == 0 {
-                return true;
-            }
-            if found == 1 {
-                return true;
-            }
-            found = 1;
+        if wrong_processor(s, at, roll) {
+            return true;
         }
+        let flags = s[at + layout::APIC_FLAGS];
+        boots += numbers::wide(flags / 2 % 2);
+        let marks = roll::PROCESSOR_MARK + flags % 2 * roll::TAKEN_MARK;
+        roll::put(roll, s[at + layout::ENTRY_ID], marks);
         at += layout::PROCESSOR_SIZE;
     }
-    found != 1
+    boots != 1
 }
 
-// Of I/O APICs: whether an enabled one stands at address 0 or at no multiple of 1,024.
-pub fn misplaced(s: &[u8]) -> bool
-    ensures { λ r. ⌜ r ≡ any isMisplaced (keep enabled (rows entrySize (now (s .entry)))) ⌝ }
+// An enabled one whose ID is taken, or that stands at address 0 or at no multiple of 1,024.
+fn wrong_io_apic(e: &[u8], roll: &[u8; 256]) -> bool
+    requires { ⌜ length (now e) ≡ entrySize ⌝ }
+    ensures { λ r. ⌜ r ≡ wrongOne ioApicCall (now (roll .entry)) (now (e .entry)) ⌝ }
+{
+    if e[layout::APIC_FLAGS] % 2 == 0 {
+        return false;
+    }
+    if roll::has(roll, e[layout::ENTRY_ID], roll::TAKEN) {
+        return true;
+    }
+    let address = numbers::le32(e, layout::IO_APIC_ADDRESS);
+    (address == 0) | (address % layout::IO_APIC_STEP != 0)
+}
+
+// Whether one of the I/O APICs is wrong.
+pub fn wrong_io_apics(roll: &mut [u8; 256], s: &[u8]) -> bool
+    ensures { λ r. ⌜ r ≡ called ioApicCall (now (roll .entry)) (rows entrySize (now (s .entry))) .wrong ⌝ }
+    ensures { λ _. ⌜ now (roll .exit) ≡ called ioApicCall (now (roll .entry)) (rows entrySize (now (s .entry))) .roll ⌝ }
 {
     let mut at = 0;
     while layout::ENTRY_SIZE <= s.len() - at {
-        if s[at + layout::APIC_FLAGS] % 2 == 1 {
-            let address = numbers::le32(s, at + layout::IO_APIC_ADDRESS);
-            if address == 0 {
-                return true;
-            }
-            if address % layout::IO_APIC_STEP != 0 {
-                return true;
-            }
+        let e = &s[at..at + layout::ENTRY_SIZE];
+        if wrong_io_apic(e, roll) {
+            return true;
         }
+        let marks = roll::IO_APIC_MARK + e[layout::APIC_FLAGS] % 2 * roll::TAKEN_MARK;
+        roll::put(roll, e[layout::ENTRY_ID], marks);
         at += layout::ENTRY_SIZE;
     }
     false

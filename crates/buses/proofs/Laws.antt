@@ -1,107 +1,100 @@
--- Laws of `lists`: what it says in the words of rule 15, and what a loop meets at a place; and of the search for one bus.
--- Assumes nothing.
-use Prim.Native.Nat.{ℕ, _+_, _-_, _≤_, _<_}
-use mathlib.Core.Path.{_≡_, refl, ap, sym, _∙_}
-use mathlib.Core.Bool.{Bool, true, false, _||_, true≢false, or-true}
+-- Laws of the buses called over the roll: what comes of it in the words of rule 15, and what a loop meets at a place; and
+-- of the search for one bus. Assumes nothing.
+use Prim.Native.Nat.{ℕ, suc, _+_, _-_, _/_, _≤_, _<_}
+use mathlib.Core.Path.{_≡_, refl, sym, _∙_}
+use mathlib.Core.Bool.{Bool, true, false, _||_, or-true, or-false}
 use mathlib.Core.List.{List, [], _∷_}
 use native.Mathlib.Omega.{arith}
 use lib.ListN.{length, getD, take, drop}
 use lib.Dec.{eqb}
 use borrow.Author.Tests.{eq-eqb, ne-eqb}
-use Rattle.mps.specs.Words.{part, among, any, each, twice}
-use Rattle.mps.specs.Layout.{Entry, idOf}
+use Rattle.mps.specs.Words.{part, bit, among, any, each, keep, twice}
+use Rattle.mps.specs.Numbers.{le}
+use Rattle.mps.specs.Layout.{Entry, idOf, nameOf}
 use Rattle.mps.specs.Buses.{isBusName}
 use Rattle.mps.specs.Rules.{unknownName}
 use Rattle.mps.specs.Sections.{rows}
-use Rattle.laws.proofs.Tests.{whether}
-use Rattle.laws.proofs.Parts.{row-part}
-use Rattle.laws.proofs.Rows.{rows-done, rows-next, row-byte}
-use Rattle.laws.proofs.Small.{Bytes, small-rows, below-each}
-use Rattle.sets.specs.declared.Numbers.{Numbers}
-use Rattle.sets.specs.Sets.{putAll, noNumbers, holds, withNumber}
-use Rattle.sets.proofs.Laws.{twiceIn, twice-is}
-use Rattle.buses.specs.declared.Listed.{Listed}
-use Rattle.buses.specs.Buses.{lists, listed}
+use Rattle.laws.proofs.Parts.{length-part}
+use Rattle.laws.proofs.Rows.{row-byte}
+use Rattle.laws.proofs.Small.{Bytes, Small, below-each}
+use Rattle.numbers.proofs.Laws.{le-split, le-below}
+use Rattle.tables.specs.Quick.{quickName}
+use Rattle.tables.proofs.Laws.{quick-is-name}
+use Rattle.roll.specs.Roll.{marked, withMarks, Shows}
+use Rattle.roll.specs.Calls.{wrongOne, called}
+use Rattle.roll.proofs.Laws.{called-stop-at, called-next-at, called-wrong, called-all, called-other, keep-every}
+use Rattle.buses.specs.Buses.{busCall}
 
--- ---- lists
+-- ---- At a place of a slice
 
-module _ (ids : Numbers) (b : Entry) (bs : List Entry) where
-  -- A bus that is met again or has an unknown name, and one that is new and has a known one.
-  pub lists-again : holds ids (idOf b) ≡ true → lists ids (b ∷ bs) ≡ record { wrong = true; ids = ids }
-  unfolding lists
-  lists-again h = rw (h, lists)
+-- A bus that has an ID that is taken, an unknown name, or neither; the entry as it is lent.
+module _ (roll s : List ℕ) (at : ℕ) (h : at + 8 ≤ length s) where
+  width : at + 8 - at ≡ 8
+  width = omega arith
 
-  pub lists-unknown : unknownName b ≡ true → lists ids (b ∷ bs) ≡ record { wrong = true; ids = ids }
-  unfolding lists
-  lists-unknown u = rw (u, or-true (holds ids (idOf b)), lists)
+  pub taken-at : marked 3 roll (idOf (part at (at + 8) s)) ≡ true → called busCall roll (rows 8 (drop at s)) ≡ record { wrong = true; roll = roll }
+  unfolding busCall wrongOne
+  taken-at t = called-stop-at busCall roll 8 s at (omega arith) (omega arith) (omega arith) (rw (rw width at t))
 
-  pub lists-new : holds ids (idOf b) ≡ false → unknownName b ≡ false → lists ids (b ∷ bs) ≡ lists (withNumber ids (idOf b)) bs
-  unfolding lists
-  lists-new h u = rw (h, u, lists)
+  pub unknown-at : isBusName (nameOf (part at (at + 8) s)) ≡ false → called busCall roll (rows 8 (drop at s)) ≡ record { wrong = true; roll = roll }
+  unfolding busCall wrongOne unknownName
+  unknown-at u =
+      let e = take 8 (drop at s) in
+      called-stop-at busCall roll 8 s at (omega arith) (omega arith) (omega arith)
+      (rw (rw width at u) (or-true (marked 3 roll (idOf e))))
 
--- Whether some bus is met again or has an unknown name.
-pub lists-wrong : (ids : Numbers) (bs : List Entry) → lists ids bs .wrong ≡ (twiceIn ids (each idOf bs) || any unknownName bs)
-unfolding lists each any twiceIn
-lists-wrong ids [] = refl
-lists-wrong ids (b ∷ bs) =
-    whether (holds ids (idOf b))
-    (λ h. rw (h, lists, twiceIn))
-    (λ h. whether (unknownName b)
-    (λ u. rw (h, u, lists, twiceIn) (sym (or-true (twiceIn (withNumber ids (idOf b)) (each idOf bs)))))
-    (λ u. rw (h, u, lists, twiceIn) (lists-wrong (withNumber ids (idOf b)) bs)))
+  pub new-at :
+      {next : List ℕ}
+      → marked 3 roll (idOf (part at (at + 8) s)) ≡ false → isBusName (nameOf (part at (at + 8) s)) ≡ true
+      → next ≡ withMarks 8 roll (idOf (part at (at + 8) s))
+      → called busCall roll (rows 8 (drop at s)) ≡ called busCall next (rows 8 (drop (at + 8) s))
+  unfolding busCall wrongOne unknownName
+  new-at t u e =
+      called-next-at busCall roll 8 s at (omega arith) (omega arith) (omega arith)
+      (rw (rw width at t, rw width at u)) (rw width at e)
 
--- Where none is or has, every ID is in the set.
-pub lists-whole :
-    (ids : Numbers) (bs : List Entry) → lists ids bs .wrong ≡ false → lists ids bs ≡ record { wrong = false; ids = putAll ids (each idOf bs) }
-unfolding lists each putAll
-lists-whole ids [] n = refl
-lists-whole ids (b ∷ bs) n =
-    whether (holds ids (idOf b) || unknownName b)
-    (λ q. absurd (true≢false (sym (rw (q, lists)) ∙ n)))
-    (λ q. rw (q, lists) (lists-whole (withNumber ids (idOf b)) bs (rw (q, lists) at n)))
+-- The name of an entry that is read as one number.
+name-number : (e : Entry) → Bytes e → le 8 e 0 / 65536 ≡ le 6 e 2
+name-number e b = omega (arith, le-split 2 6 e 0, le-below 2 e 0 b)
 
--- ---- listed
+pub quick-at :
+    (s : List ℕ) (at : ℕ) → at + 8 ≤ length s → Bytes (part at (at + 8) s)
+    → {n : ℕ} → n ≡ le 8 (part at (at + 8) s) 0 → {b : Bool} → b ≡ quickName (n / 65536) → b ≡ true
+    → isBusName (nameOf (part at (at + 8) s)) ≡ true
+quick-at s at h small e q t =
+    let row = part at (at + 8) s in
+    quick-is-name row 2 (omega (arith, length-part at (at + 8) s h)) small (rw (e, name-number row small) at (sym q ∙ t))
 
-module _ (s : List ℕ) where
-  -- Where a slice holds bytes, this is rule 15.
-  pub listed-wrong : Bytes s → listed s .wrong ≡ (twice (each idOf (rows 8 s)) || any unknownName (rows 8 s))
-  unfolding listed
-  listed-wrong h = lists-wrong noNumbers (rows 8 s) ∙ rw (twice-is (each idOf (rows 8 s)) (λ i l. below-each 1 (small-rows 8 s h) i))
+-- ---- In the words of the rule
 
-  pub listed-ids : listed s .wrong ≡ false → listed s .ids ≡ putAll noNumbers (each idOf (rows 8 s))
-  unfolding listed
-  listed-ids n = ap (λ (l : Listed). l .ids) (lists-whole noNumbers (rows 8 s) n)
+module _ (roll : List ℕ) (size : length roll ≡ 256) (es : List Entry) where
+  -- Over a roll with no bus on it.
+  pub buses-wrong :
+      Small es → Shows 3 roll (λ (y : ℕ). false) → called busCall roll es .wrong ≡ (twice (each idOf es) || any unknownName es)
+  unfolding busCall bit keep any
+  buses-wrong small free =
+      rw (
+        called-wrong busCall (λ (e : Entry). refl) roll size es small,
+        keep-every es,
+        none (each idOf es) (below-each 1 small),
+      )
+    where
+      none : (ids : List ℕ) → Bytes ids → any (marked 3 roll) ids ≡ false
+      none [] b = refl
+      none (x ∷ ids) b = rw (free x (b 0)) (none ids (λ i. b (suc i)))
 
-  pub listed-rows : lists noNumbers (rows 8 s) ≡ listed s
-  unfolding listed
-  listed-rows = refl
+  -- The roll behind buses of which none is wrong.
+  module _ (fine : called busCall roll es .wrong ≡ false) (y : ℕ) (h : y < 256) where
+    pub buses-listed : Shows 3 roll (λ (y : ℕ). false) → marked 3 (called busCall roll es .roll) y ≡ among y (each idOf es)
+    unfolding busCall bit
+    buses-listed free =
+        called-all busCall 3 roll es fine y (rw size h) (λ (e : Entry). refl)
+        ∙ rw (free y h) (or-false (among y (each idOf es)))
 
--- From place `at` on: no whole row is left, or the bus there is met again, has an unknown name, or neither.
-module _ (ids : Numbers) (s : List ℕ) (at : ℕ) (h : at ≤ length s) where
-  pub listed-done : length s - at < 8 → lists ids (rows 8 (drop at s)) ≡ record { wrong = false; ids = ids }
-  unfolding lists
-  listed-done f = rw (rows-done 8 s at h f)
-
-  module _ (r : 8 ≤ length s - at) where
-    pub again-at : holds ids (getD s (at + 1) 0) ≡ true → lists ids (rows 8 (drop at s)) ≡ record { wrong = true; ids = ids }
-    again-at t =
-        rw (rows-next 8 s at (omega arith) h r)
-        (lists-again ids (take 8 (drop at s)) (rows 8 (drop (at + 8) s)) (rw (row-byte 8 s at 1 (omega arith)) t))
-
-    pub unknown-at : isBusName (part (at + 2) (at + 8) s) ≡ false → lists ids (rows 8 (drop at s)) ≡ record { wrong = true; ids = ids }
-    unfolding unknownName
-    unknown-at u =
-        rw (rows-next 8 s at (omega arith) h r)
-        (lists-unknown ids (take 8 (drop at s)) (rows 8 (drop (at + 8) s)) (rw (row-part 8 s at 2 8 (omega arith), u)))
-
-    pub new-at :
-        holds ids (getD s (at + 1) 0) ≡ false → isBusName (part (at + 2) (at + 8) s) ≡ true
-        → lists ids (rows 8 (drop at s)) ≡ lists (withNumber ids (getD s (at + 1) 0)) (rows 8 (drop (at + 8) s))
-    unfolding unknownName
-    new-at t u =
-        let id = row-byte 8 s at 1 (omega arith) in
-        rw (rows-next 8 s at (omega arith) h r, ← id)
-        (lists-new ids (take 8 (drop at s)) (rows 8 (drop (at + 8) s)) (rw id t) (rw (row-part 8 s at 2 8 (omega arith), u)))
+    -- Another bit.
+    pub buses-keep : (j : ℕ) → bit j 8 ≡ false → marked j (called busCall roll es .roll) y ≡ marked j roll y
+    unfolding busCall
+    buses-keep j o = called-other busCall j roll es fine y (rw size h) (λ (e : Entry). o)
 
 -- ---- One bus
 

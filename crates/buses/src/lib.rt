@@ -1,44 +1,70 @@
-// What buses must say: refusal 15, and which buses are listed.
+// What buses must say: refusal 15, and whether a bus is listed.
 //
-// Both functions go once over the bus entries, as the bytes that they are, one behind the other; bytes that are left at the
-// end and are no whole entry are not looked at. Promised of any bytes: `list` answers `listed`, of specs/Buses.antt, and
-// `is_listed` whether a bus is among the IDs. proofs/Laws.antt says what `listed` means in the words of the rule, and which
-// IDs its set holds.
+// Both public functions go once over the bus entries, as the bytes that they are, one behind the other; bytes that are left
+// at the end and are no whole entry are not looked at. Promised of any roll and any bytes: `wrong` answers and leaves what the
+// call of specs/Buses.antt over the roll does, and `is_listed` answers whether a bus is among the IDs. proofs/Laws.antt says
+// what the call means in the words of the rule, and what the roll then shows.
 use mps::layout;
-use sets::Numbers;
+ghost use Prim.Native.Nat.{_*_, _≤_};
 ghost use mathlib.Core.Path.{_≡_};
+ghost use lib.ListN.{length, drop};
 ghost use Rattle.mps.specs.Words.{among, each};
 ghost use Rattle.mps.specs.Layout.{entrySize, idOf};
 ghost use Rattle.mps.specs.Sections.{rows};
-ghost use Rattle.buses.specs.Buses.{listed};
+ghost use Rattle.roll.specs.Calls.{called};
+ghost use Rattle.buses.specs.Buses.{busCall};
 
-// Whether some bus has an ID that was met before or an unknown name, and the IDs met; where one has, those before it.
-pub struct Listed {
-    pub wrong: bool,
-    pub ids: Numbers,
+// How many buses, from the first on, have a free ID and a quick name. Most tables have no others, and those that are behind
+// are called from there on by the table of names. The contract says only that nothing is lost by it.
+fn known(roll: &mut [u8; 256], s: &[u8]) -> usize
+    ensures { λ r. ⌜ entrySize * r ≤ length (now (s .entry)) ⌝ }
+    ensures { λ r. ⌜
+        called busCall (now (roll .exit)) (rows entrySize (drop (entrySize * r) (now (s .entry))))
+        ≡ called busCall (now (roll .entry)) (rows entrySize (now (s .entry)))
+        ⌝ }
+{
+    let n = s.len() / layout::ENTRY_SIZE;
+    let mut k = 0;
+    while k < n {
+        let at = layout::ENTRY_SIZE * k;
+        let e = &s[at..at + layout::ENTRY_SIZE];
+        let id = e[layout::ENTRY_ID];
+        if roll::has(roll, id, roll::BUS) {
+            return k;
+        }
+        // The name is the upper six bytes of eight, which are read by one load.
+        if tables::names::quick(numbers::le64(e, 0) / 65536) {
+            roll::put(roll, id, roll::BUS_MARK);
+        } else {
+            return k;
+        }
+        k += 1;
+    }
+    k
 }
 
-pub fn list(s: &[u8]) -> Listed
-    ensures { λ r. ⌜ r ≡ listed (now (s .entry)) ⌝ }
+// Whether some bus has an ID that a bus on the roll or before it has, or an unknown name.
+pub fn wrong(roll: &mut [u8; 256], s: &[u8]) -> bool
+    ensures { λ r. ⌜ r ≡ called busCall (now (roll .entry)) (rows entrySize (now (s .entry))) .wrong ⌝ }
+    ensures { λ _. ⌜ now (roll .exit) ≡ called busCall (now (roll .entry)) (rows entrySize (now (s .entry))) .roll ⌝ }
 {
-    let mut ids = sets::empty();
-    let mut at = 0;
+    let mut at = layout::ENTRY_SIZE * known(roll, s);
     while layout::ENTRY_SIZE <= s.len() - at {
-        let id = s[at + layout::ENTRY_ID];
-        if sets::contains(ids, id) {
-            return Listed { wrong: true, ids };
+        let e = &s[at..at + layout::ENTRY_SIZE];
+        if roll::has(roll, e[layout::ENTRY_ID], roll::BUS) {
+            return true;
         }
-        if tables::names::is_bus_name(&s[at + layout::BUS_NAME..at + layout::ENTRY_SIZE]) {
-            ids = sets::put(ids, id);
+        if tables::names::is_bus_name(&e[layout::BUS_NAME..layout::ENTRY_SIZE]) {
+            roll::put(roll, e[layout::ENTRY_ID], roll::BUS_MARK);
         } else {
-            return Listed { wrong: true, ids };
+            return true;
         }
         at += layout::ENTRY_SIZE;
     }
-    Listed { wrong: false, ids }
+    false
 }
 
-// For those who ask about one bus of an accepted table: no set is made, and no name is looked at.
+// For those who ask about one bus of an accepted table: no roll is kept, and no name is looked at.
 pub fn is_listed(s: &[u8], bus: u8) -> bool
     ensures { λ r. ⌜ r ≡ among bus (each idOf (rows entrySize (now (s .entry)))) ⌝ }
 {

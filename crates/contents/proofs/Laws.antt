@@ -1,20 +1,19 @@
 -- What callers may use of the regions of a dump. Assumes nothing.
 use Prim.Native.Nat.{ℕ, zero, suc, _+_, _≤_, _<_}
 use mathlib.Core.Path.{_≡_, refl, sym}
-use mathlib.Core.Bool.{true, not}
+use mathlib.Core.Bool.{true}
 use mathlib.Core.List.{List, [], _∷_}
 use native.Mathlib.Omega.{arith}
 use lib.ListN.{length, take}
 use lib.Dec.{eqb, leb, ltb}
 use borrow.Author.Tests.{ltb-true, leb-true, le-leb, ne-eqb}
 use Rattle.mps.specs.Words.{only, keep, any, every}
-use Rattle.mps.specs.Layout.{regionsMost}
-use Rattle.mps.specs.Dump.{ofKind, endOf, regions, soundDump, holding, holds, noRegion}
+use Rattle.mps.specs.Layout.{regionsMost, regionCount}
+use Rattle.mps.specs.Dump.{ofKind, endOf, contentsEnd, regions, soundDump, holding, holds, noRegion}
 use Rattle.mps.specs.declared.Region.{Region}
 use Rattle.laws.proofs.Tests.{whether, and-parts}
 use Rattle.laws.proofs.Lists.{keep-in, keep-out}
 use Rattle.regions.specs.Regions.{blank, eight, firstOfKind}
-use Rattle.contents.specs.Contents.{contents}
 use Rattle.regions.proofs.Coded.{holding-blank}
 use Rattle.regions.proofs.Firsts.{first-all}
 use Rattle.regions.proofs.Eight.{first-eight}
@@ -22,25 +21,11 @@ use Rattle.contents.proofs.Once.{kind-alone}
 use Rattle.contents.proofs.Bodies.{regions-length, before, regions-before, behind, regions-behind}
 use Rattle.contents.proofs.Rules.{sound-parts}
 
--- ---- What is read of a dump
-
-pub contents-wrong : (d : List ℕ) → contents d .wrong ≡ not (soundDump d)
-unfolding contents
-contents-wrong d = whether (soundDump d) (λ t. rw t) (λ t. rw t)
-
-pub contents-all : (d : List ℕ) → soundDump d ≡ true → contents d .all ≡ eight (regions d)
-unfolding contents
-contents-all d t = rw t
-
--- ---- Searches over eight records answer as over the regions
+-- ---- The search over eight records answers as over the regions
 
 pub holding-eight : (address : ℕ) (rs : List Region) → length rs ≤ regionsMost → holding address (take 8 (eight rs)) ≡ holding address rs
 unfolding holding
 holding-eight address rs h = first-eight rs h (holds address) (noRegion address) (holding-blank address)
-
-pub kind-eight : (k : ℕ) (rs : List Region) → length rs ≤ regionsMost → firstOfKind k (take 8 (eight rs)) ≡ firstOfKind k rs
-unfolding firstOfKind
-kind-eight k rs h = first-eight rs h (ofKind k) blank (λ t. refl)
 
 -- ---- The first region of a kind
 
@@ -56,6 +41,10 @@ kind-listed k (r ∷ rs) h =
 
 pub sound-count : (d : List ℕ) → soundDump d ≡ true → length (regions d) ≤ regionsMost
 sound-count d e = let r = sound-parts d e in omega (arith, regions-length d, r .count)
+
+-- Its rows stand inside it.
+pub sound-rows : (d : List ℕ) → soundDump d ≡ true → (regionCount d ≤ regionsMost) × (contentsEnd d ≤ length d)
+sound-rows d e = let r = sound-parts d e in (r .count, omega (arith, r .ends))
 
 pub sound-kind :
     (d : List ℕ) (k : ℕ) → soundDump d ≡ true → 1 ≤ k → k ≤ 3

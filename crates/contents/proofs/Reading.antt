@@ -1,68 +1,49 @@
--- Laws for `read`: what it refuses breaks a rule, and what it accepts keeps them all. Assumes nothing.
+-- Laws for `sound`: what it refuses breaks a rule, and what it accepts keeps them all. Assumes nothing.
 use Prim.Native.Nat.{ℕ, _≤_}
-use mathlib.Core.Path.{_≡_, refl, sym, _∙_}
-use mathlib.Core.Bool.{true, false, not, true≢false}
-use mathlib.Core.List.{List, [], _∷_}
+use mathlib.Core.Path.{_≡_, sym, _∙_}
+use mathlib.Core.Bool.{true, false, not, true≢false, _||_}
+use mathlib.Core.List.{List}
 use native.Mathlib.Omega.{arith}
-use lib.ListN.{length, take, replicate}
-use borrow.Author.Tests.{not-false}
-use Rattle.mps.specs.Words.{any, every}
+use lib.ListN.{length}
+use lib.Dec.{eqb}
+use borrow.Author.Tests.{eqb-true, eq-eqb, ne-eqb, not-true}
+use Rattle.mps.specs.Words.{every}
 use Rattle.mps.specs.Layout.{dumpMost, regionsMost, regionCount}
-use Rattle.mps.specs.Dump.{regions, soundRegion, kindTwice, overlap, soundDump}
-use Rattle.mps.specs.declared.Region.{Region}
-use Rattle.laws.proofs.Tests.{whether, or-parts}
-use Rattle.regions.specs.Regions.{blank, eight}
-use Rattle.contents.specs.Contents.{contents}
-use Rattle.contents.specs.Steps.{lastEnd, unsoundRegion, clashAny}
-use Rattle.contents.specs.declared.Contents.{Contents}
-use Rattle.regions.proofs.Eight.{length-eight, take-count}
-use Rattle.contents.proofs.Pairs.{clashes-are}
-use Rattle.contents.proofs.Bodies.{regions-length}
+use Rattle.mps.specs.Dump.{regions, contentsEnd, soundRegion, kindTwice, overlap, soundDump}
+use Rattle.laws.proofs.Tests.{whether, and-parts, or-parts}
+use Rattle.contents.specs.Steps.{lastEnd, fitted}
+use Rattle.contents.proofs.Pairs.{rules, fitted-is}
 use Rattle.contents.proofs.Rules.{Sound, sound-parts, sound-whole}
 
 -- A dump that breaks a rule.
-pub contents-none : (d : List ℕ) → (Sound d → ⊥) → _≡_ {A = Contents} (record { wrong = true; all = replicate 8 blank }) (contents d)
-unfolding contents eight
-contents-none d f = whether (soundDump d) (λ t. absurd (f (sound-parts d t))) (λ t. rw t)
+pub sound-not : (d : List ℕ) → (Sound d → ⊥) → false ≡ soundDump d
+sound-not d f = whether (soundDump d) (λ t. absurd (f (sound-parts d t))) sym
 
--- To look for a region that breaks a rule is to ask whether each keeps it.
-any-unsound : (rs : List Region) → any unsoundRegion rs ≡ not (every soundRegion rs)
-unfolding any every
-any-unsound [] = refl
-any-unsound (r ∷ rs) = whether (soundRegion r) (λ t. rw t (any-unsound rs)) (λ t. rw t)
-
--- n is what byte 0 says, `all` is what was read of so many rows.
+-- n is where the last body was found to end.
 module _
-    (d : List ℕ) (n : ℕ) (all : List Region) (counted : n ≡ regionCount d) (few : n ≤ regionsMost) (filled : all ≡ eight (regions d)) where
-  few-regions : length (regions d) ≤ regionsMost
-  few-regions = omega (arith, regions-length d)
+    (d : List ℕ) (n : ℕ) (read : n ≡ fitted (contentsEnd d) (regions d)) (some : 1 ≤ length d) (most : length d ≤ dumpMost)
+    (few : regionCount d ≤ regionsMost) where
+  kept : rules (regions d) ≡ true → n ≡ lastEnd d
+  kept t = read ∙ rw t at (fitted-is (contentsEnd d) (regions d))
 
-  pub read-length : n ≤ length all
-  read-length = rw filled (omega (arith, length-eight (regions d) few-regions))
-
-  read-regions : take n all ≡ regions d
-  read-regions = rw filled (take-count (regions d) few-regions n (regions-length d ∙ sym counted))
-
-  pub read-unsound : any unsoundRegion (take n all) ≡ true → Sound d → ⊥
-  read-unsound e s = true≢false (sym (rw (read-regions, any-unsound (regions d), s .each-sound) at e))
-
-  pub read-clash : clashAny (take n all) ≡ true → Sound d → ⊥
-  read-clash e s = true≢false (sym (rw (read-regions, clashes-are (regions d), s .apart, s .once) at e))
-
-  pub read-sound :
-      1 ≤ length d → length d ≤ dumpMost → lastEnd d ≡ length d
-      → any unsoundRegion (take n all) ≡ false → clashAny (take n all) ≡ false
-      → _≡_ {A = Contents} (record { wrong = false; all = all }) (contents d)
-  unfolding contents
-  read-sound some most ends u c =
-      let apart = or-parts (overlap (regions d)) (kindTwice (regions d)) (sym (clashes-are (regions d)) ∙ rw read-regions at c) in
-      let sound = sound-whole d (record {
+  pub sound-is-end : eqb n (length d) ≡ soundDump d
+  sound-is-end =
+      whether (rules (regions d))
+      (λ t.
+      let h = and-parts (every soundRegion (regions d)) (not (overlap (regions d) || kindTwice (regions d))) t in
+      let apart = or-parts (overlap (regions d)) (kindTwice (regions d)) (not-true _ (h .1)) in
+      whether (eqb n (length d))
+      (λ e. e ∙ sym (sound-whole d (record {
         some = some;
         most = most;
-        count = omega arith;
-        ends = ends;
-        each-sound = not-false (every soundRegion (regions d)) (sym (any-unsound (regions d)) ∙ rw read-regions at u);
+        count = few;
+        ends = sym (kept t) ∙ eqb-true n (length d) e;
+        each-sound = h .0;
         once = apart .1;
         apart = apart .0;
-      }) in
-      rw (sound, filled)
+      })))
+      (λ e. e ∙ sound-not d (λ s. true≢false (sym (eq-eqb n (length d) (kept t ∙ s .ends)) ∙ e))))
+      (λ f.
+      let zero : n ≡ 0 = read ∙ rw f at (fitted-is (contentsEnd d) (regions d)) in
+      ne-eqb n (length d) (λ e. omega (arith, zero, e, some))
+      ∙ sound-not d (λ s. true≢false (rw (s .each-sound, s .apart, s .once) at f)))

@@ -1,25 +1,28 @@
--- What the steps of `read` answer: where the last body ends, a test of a region by itself, and the two rules of the
--- regions together as one test of two. A reader need not believe them: the contract of `read` does not cite them.
-use Prim.Native.Nat.{ℕ, _+_}
-use mathlib.Core.Bool.{Bool, false, not, _||_, _&&_}
+-- What the steps of `sound` answer: the rows that are left, the two rules of the regions together as one test of two, and
+-- where the last body ends. A reader need not believe them: the contract of `sound` does not cite them.
+use Prim.Native.Nat.{ℕ, _+_, _-_, _*_}
+use mathlib.Core.Bool.{Bool, not, cond, _||_, _&&_}
 use mathlib.Core.List.{List, [], _∷_}
+use lib.ListN.{drop}
 use Rattle.mps.specs.Words.{any, each}
 use Rattle.mps.specs.Sums.{total}
-use Rattle.mps.specs.Dump.{contentsEnd, sizeOf, regions, soundRegion, share, onceOnly, ofKind}
+use Rattle.mps.specs.Layout.{rowLength}
+use Rattle.mps.specs.Dump.{contentsEnd, sizeOf, regionsFrom, regions, soundRegion, share, onceOnly, ofKind}
 use Rattle.mps.specs.declared.Region.{Region}
 
 abbrev pub lastEnd : List ℕ → ℕ
 lastEnd d = contentsEnd d + total (each sizeOf (regions d))
 
--- A region that breaks a rule by itself.
-abbrev pub unsoundRegion : Region → Bool
-unsoundRegion r = not (soundRegion r)
+-- Of so many rows those from the i-th on; the body of the first of them is at `offset`.
+abbrev pub rowsLeft : List ℕ → ℕ → ℕ → ℕ → List Region
+rowsLeft d count offset i = regionsFrom (count - i) offset (drop (1 + rowLength * i) d)
 
 -- Two regions that share an address, or are of one kind that may occur once.
 unfoldable pub clashing : Region → Region → Bool
 clashing r q = share r q || onceOnly r && ofKind (r .kind) q
 
--- Whether some two clash.
-unfoldable pub clashAny : List Region → Bool
-clashAny [] = false
-clashAny (r ∷ rs) = any (clashing r) rs || clashAny rs
+-- Where the last of these bodies ends, the first of them at `end`; 0 where a region breaks a rule by itself, or clashes with
+-- one behind it.
+unfoldable pub fitted : ℕ → List Region → ℕ
+fitted end [] = end
+fitted end (r ∷ rs) = cond (soundRegion r && not (any (clashing r) rs)) (fitted (end + r .size) rs) 0

@@ -1,26 +1,19 @@
-// What a dump's contents say: refusal 1, and the regions of a dump that breaks no rule of its section.
+// Refusal 1: whether a dump keeps the rules of its section.
 //
-// Promised of any bytes: `read` answers `contents`, which says whether the dump breaks a rule (`soundDump`, mps's
-// specs/Dump.antt) and, if not, holds its regions as eight records (`regions`). The definition stands in specs/Contents.antt;
-// proofs/Laws.antt has what a caller may use of a sound dump and its regions.
+// Promised of any bytes: `sound` answers `soundDump`, which stands in mps's specs/Dump.antt. The steps stand in
+// specs/Steps.antt; proofs/Laws.antt has what a caller may use of a sound dump and its regions, proofs/Listed.antt what a loop
+// over the rows needs.
+//
+// Every row is read where it stands, as often as it is needed: no array of regions is filled, and none is copied.
 use mps::Region;
 use mps::layout;
-use regions::BLANK;
 ghost use mathlib.Core.Path.{_≡_};
-ghost use Prim.Native.Nat.{_+_, _≤_, _<_};
-ghost use lib.ListN.{length, getD, take, drop};
+ghost use Prim.Native.Nat.{_+_, _*_, _≤_, _<_};
+ghost use lib.ListN.{length};
 ghost use Rattle.mps.specs.Words.{any};
-ghost use Rattle.mps.specs.Layout.{regionsMost, regionCount};
-ghost use Rattle.mps.specs.Dump.{endOf, regions, soundRegion};
-ghost use Rattle.regions.specs.Regions.{blank, eight};
-ghost use Rattle.contents.specs.Contents.{contents};
-ghost use Rattle.contents.specs.Steps.{lastEnd, unsoundRegion, clashing, clashAny};
-
-// Whether the dump breaks a rule, and its regions where it does not.
-pub struct Contents {
-    pub wrong: bool,
-    pub all: [Region; 8],
-}
+ghost use Rattle.mps.specs.Layout.{regionsMost, regionCount, rowLength};
+ghost use Rattle.mps.specs.Dump.{endOf, contentsEnd, regions, soundRegion, soundDump};
+ghost use Rattle.contents.specs.Steps.{clashing, rowsLeft, fitted};
 
 // The bound is said because a caller sees a number, and not its type.
 fn wide(x: u32) -> u64
@@ -36,39 +29,8 @@ fn end_of(r: Region) -> u64
     wide(r.base) + wide(r.size)
 }
 
-// What the rows of the contents say, and where the last body ends.
-struct Listed {
-    all: [Region; 8],
-    end: usize,
-}
-
-fn rows(d: &[u8], count: usize) -> Listed
-    requires { ⌜ count ≡ regionCount (now d) ⌝ }
-    requires { ⌜ count ≤ regionsMost ⌝ }
-    ensures { λ r. ⌜ r .all ≡ eight (regions (now (d .entry))) ⌝ }
-    ensures { λ r. ⌜ r .end ≡ lastEnd (now (d .entry)) ⌝ }
-{
-    let mut all = [BLANK; 8];
-    let mut at = 1;
-    let mut end = 1 + layout::ROW_LENGTH * count;
-    let mut i = 0;
-    while i < count {
-        let size = numbers::le32(d, at + layout::ROW_SIZE);
-        all[i] = Region {
-            kind: numbers::byte(d, at + layout::ROW_KIND),
-            base: numbers::le32(d, at + layout::ROW_BASE),
-            offset: end,
-            size,
-        };
-        end += wide(size) as usize;
-        at += layout::ROW_LENGTH;
-        i += 1;
-    }
-    Listed { all, end }
-}
-
 // The rules of a region by itself.
-fn sound(r: Region) -> bool
+fn sound_region(r: Region) -> bool
     ensures { λ s. ⌜ s ≡ soundRegion r ⌝ }
 {
     let end = end_of(r);
@@ -79,22 +41,6 @@ fn sound(r: Region) -> bool
     (short | rom | (r.kind == layout::OTHER_MEMORY))
         & (r.base % layout::REGION_STEP == 0)
         & (end <= layout::MEMORY_END)
-}
-
-// Whether some region among the first so many breaks a rule by itself.
-fn unsound(rs: [Region; 8], count: usize) -> bool
-    requires { ⌜ count ≤ length rs ⌝ }
-    requires { ⌜ count ≤ regionsMost ⌝ }
-    ensures { λ r. ⌜ r ≡ any unsoundRegion (take count rs) ⌝ }
-{
-    let mut i = 0;
-    while i < count {
-        if !sound(rs[i]) {
-            return true;
-        }
-        i += 1;
-    }
-    false
 }
 
 // Whether two regions may not both stand in a dump: they share an address, or are of one kind that occurs at most once.
@@ -108,17 +54,16 @@ fn clash(r: Region, q: Region) -> bool
     share | ((layout::EBDA <= r.kind) & (r.kind <= layout::BIOS_ROM) & (q.kind == r.kind))
 }
 
-// Whether a region behind the one at `i` clashes with it.
-fn clashes_at(rs: [Region; 8], count: usize, i: usize) -> bool
-    requires { ⌜ count ≤ length rs ⌝ }
-    requires { ⌜ count ≤ regionsMost ⌝ }
-    requires { ⌜ i < count ⌝ }
-    ensures { λ r. ⌜ r ≡ any (clashing (getD rs i blank)) (drop (i + 1) (take count rs)) ⌝ }
+// Whether some region from the i-th on clashes with this one. Where its body is does not matter.
+fn clashes(d: &[u8], count: usize, i: usize, r: Region) -> bool
+    requires { ⌜ 1 + rowLength * count ≤ length (now d) ⌝ }
+    requires { ⌜ (i ≤ count) × (count ≤ regionsMost) ⌝ }
+    ensures { λ s. ⌜ s ≡ any (clashing r) (rowsLeft (now (d .entry)) count 0 i) ⌝ }
 {
-    let r = rs[i];
-    let mut j = i + 1;
+    let mut j = i;
     while j < count {
-        if clash(r, rs[j]) {
+        let at = 1 + layout::ROW_LENGTH * j;
+        if clash(r, regions::row(&d[at..at + layout::ROW_LENGTH], 0)) {
             return true;
         }
         j += 1;
@@ -126,50 +71,46 @@ fn clashes_at(rs: [Region; 8], count: usize, i: usize) -> bool
     false
 }
 
-// Whether some two of the first so many clash.
-fn clashes(rs: [Region; 8], count: usize) -> bool
-    requires { ⌜ count ≤ length rs ⌝ }
-    requires { ⌜ count ≤ regionsMost ⌝ }
-    ensures { λ r. ⌜ r ≡ clashAny (take count rs) ⌝ }
+// Where the last body ends, or 0 where a region breaks a rule by itself or with another.
+fn rows(d: &[u8], count: usize) -> usize
+    requires { ⌜ 1 + rowLength * count ≤ length (now d) ⌝ }
+    requires { ⌜ (count ≡ regionCount (now d)) × (count ≤ regionsMost) ⌝ }
+    ensures { λ r. ⌜ r ≡ fitted (contentsEnd (now (d .entry))) (regions (now (d .entry))) ⌝ }
 {
+    let mut end = 1 + layout::ROW_LENGTH * count;
     let mut i = 0;
     while i < count {
-        if clashes_at(rs, count, i) {
-            return true;
+        let at = 1 + layout::ROW_LENGTH * i;
+        let r = regions::row(&d[at..at + layout::ROW_LENGTH], end);
+        if !sound_region(r) {
+            return 0;
         }
+        if clashes(d, count, i + 1, r) {
+            return 0;
+        }
+        end += r.size as usize;
         i += 1;
     }
-    false
+    end
 }
 
-// Which rule is broken cannot be seen, so they are tested as it is cheapest.
-pub fn read(d: &[u8]) -> Contents
-    ensures { λ r. ⌜ r ≡ contents (now (d .entry)) ⌝ }
+// Which rule is broken cannot be seen, so they are tested as it is cheapest. A dump that ends before its rows do cannot end
+// with the last body, so the rows are read only where they all are there.
+pub fn sound(d: &[u8]) -> bool
+    ensures { λ r. ⌜ r ≡ soundDump (now (d .entry)) ⌝ }
 {
-    let none = Contents {
-        wrong: true,
-        all: [BLANK; 8],
-    };
     if d.len() == 0 {
-        return none;
+        return false;
     }
     if layout::DUMP_MOST < d.len() {
-        return none;
+        return false;
     }
     let count = d[layout::REGION_COUNT] as usize;
     if layout::REGIONS_MOST < count {
-        return none;
+        return false;
     }
-    let listed = rows(d, count);
-    if listed.end != d.len() {
-        return none;
+    if d.len() < 1 + layout::ROW_LENGTH * count {
+        return false;
     }
-    let all = listed.all;
-    if unsound(all, count) {
-        return none;
-    }
-    if clashes(all, count) {
-        return none;
-    }
-    Contents { wrong: false, all }
+    rows(d, count) == d.len()
 }

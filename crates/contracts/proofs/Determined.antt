@@ -3,7 +3,7 @@
 -- that it allows are equal (Forms). Assumes nothing.
 use mathlib.Core.Path.{sym, _∙_}
 use denote.Ref.{now}
-use Rattle.contracts.proofs.Forms.{Answers, Leaves, Determines, Decides, both-are}
+use Rattle.contracts.proofs.Forms.{Answers, Leaves, Determines, Decides, both, both-are}
 use Rattle.sums.proofs.sum.Reads as sums-sum
 use Rattle.sums.proofs.to_store.Reads as sums-to-store
 use Rattle.numbers.proofs.byte.Reads as numbers-byte
@@ -18,10 +18,13 @@ use Rattle.slices.proofs.same.Reads as slices-same
 use Rattle.slices.proofs.copy.Reads as slices-copy
 use Rattle.slices.proofs.clear.Reads as slices-clear
 use Rattle.tables.proofs.names.is_bus_name.Reads as tables-names-is-bus-name
+use Rattle.tables.proofs.names.quick.Reads as tables-names-quick
 use Rattle.tables.proofs.ranges.ranges.Reads as tables-ranges-ranges
 use Rattle.sets.proofs.empty.Reads as sets-empty
 use Rattle.sets.proofs.put.Reads as sets-put
 use Rattle.sets.proofs.contains.Reads as sets-contains
+use Rattle.roll.proofs.has.Reads as roll-has
+use Rattle.roll.proofs.put.Reads as roll-put
 use Rattle.entries.proofs.size.Reads as entries-size
 use Rattle.entries.proofs.count.Reads as entries-count
 use Rattle.entries.proofs.offset.Reads as entries-offset
@@ -33,24 +36,23 @@ use Rattle.header.proofs.wrong_extended.Reads as header-wrong-extended
 use Rattle.runs.proofs.size_of.Reads as runs-size-of
 use Rattle.sections.proofs.base.Reads as sections-base
 use Rattle.extension.proofs.extended.Reads as extension-extended
-use Rattle.apics.proofs.claim.Reads as apics-claim
-use Rattle.apics.proofs.wrong_boot.Reads as apics-wrong-boot
-use Rattle.apics.proofs.misplaced.Reads as apics-misplaced
-use Rattle.buses.proofs.list.Reads as buses-list
+use Rattle.apics.proofs.wrong_processors.Reads as apics-wrong-processors
+use Rattle.apics.proofs.wrong_io_apics.Reads as apics-wrong-io-apics
+use Rattle.buses.proofs.wrong.Reads as buses-wrong
 use Rattle.buses.proofs.is_listed.Reads as buses-is-listed
-use Rattle.interrupts.proofs.wrong.Reads as interrupts-wrong
+use Rattle.interrupts.proofs.wrong_io.Reads as interrupts-wrong-io
+use Rattle.interrupts.proofs.wrong_local.Reads as interrupts-wrong-local
 use Rattle.spaces.proofs.wrong_mappings.Reads as spaces-wrong-mappings
-use Rattle.spaces.proofs.wrong_links.Reads as spaces-wrong-links
 use Rattle.spaces.proofs.wrong_modifiers.Reads as spaces-wrong-modifiers
 use Rattle.parents.proofs.wrong.Reads as parents-wrong
 use Rattle.judge.proofs.judge.Reads as judge-judge
 use Rattle.judge.proofs.refusal.Reads as judge-refusal
 use Rattle.judge.proofs.examine.Reads as judge-examine
-use Rattle.regions.proofs.of_kind.Reads as regions-of-kind
+use Rattle.regions.proofs.row.Reads as regions-row
 use Rattle.regions.proofs.place_of as regions-place-of
 use Rattle.regions.proofs.place_in.Reads as regions-place-in
 use Rattle.regions.proofs.holding.Reads as regions-holding
-use Rattle.contents.proofs.read.Reads as contents-read
+use Rattle.contents.proofs.sound.Reads as contents-sound
 use Rattle.pointers.proofs.search.Reads as pointers-search
 use Rattle.finding.proofs.find.Reads as finding-find
 use Rattle.dump.proofs.read.Reads as dump-read
@@ -59,14 +61,9 @@ use Rattle.reader.proofs.here as reader-here
 use Rattle.reader.proofs.next as reader-next
 use Rattle.reader.proofs.entry.Reads as reader-entry
 use Rattle.reader.proofs.after.Reads as reader-after
-use Rattle.text.proofs.has.Reads as text-has
-use Rattle.text.proofs.word.Reads as text-word
 use Rattle.text.proofs.width.Reads as text-width
 use Rattle.text.proofs.kept.Reads as text-kept
-use Rattle.text.proofs.name.Reads as text-name
-use Rattle.digits.proofs.decimal.Reads as digits-decimal
-use Rattle.digits.proofs.hex8.Reads as digits-hex8
-use Rattle.digits.proofs.hex16.Reads as digits-hex16
+use Rattle.digits.proofs.hex.Reads as digits-hex
 use Rattle.lines.proofs.entry.line.Reads as lines-entry-line
 use Rattle.lines.proofs.frame.pointer.Reads as lines-frame-pointer
 use Rattle.lines.proofs.frame.table.Reads as lines-frame-table
@@ -147,6 +144,9 @@ slices-clear-determined κ a x y s t p q = p ∙ sym q
 pub tables-names-is-bus-name-determined : Answers tables-names-is-bus-name.Post
 tables-names-is-bus-name-determined κ a x y s t p q = p ∙ sym q
 
+pub tables-names-quick-determined : Answers tables-names-quick.Post
+tables-names-quick-determined κ a x y s t p q = p ∙ sym q
+
 pub tables-ranges-ranges-determined : Answers tables-ranges-ranges.Post
 tables-ranges-ranges-determined κ a x y s t p q = p ∙ sym q
 
@@ -160,6 +160,14 @@ sets-put-determined κ a x y s t p q = p ∙ sym q
 
 pub sets-contains-determined : Answers sets-contains.Post
 sets-contains-determined κ a x y s t p q = p ∙ sym q
+
+-- ---- roll
+
+pub roll-has-determined : Answers roll-has.Post
+roll-has-determined κ a x y s t p q = p ∙ sym q
+
+pub roll-put-determined : Leaves roll-put.Post (λ κ s. now (s .0))
+roll-put-determined κ a x y s t p q = p ∙ sym q
 
 -- ---- entries
 
@@ -208,35 +216,32 @@ extension-extended-determined κ a x y s t p q = p ∙ sym q
 
 -- ---- apics
 
-pub apics-claim-determined : Answers apics-claim.Post
-apics-claim-determined κ a x y s t p q = p ∙ sym q
+pub apics-wrong-processors-determined : Determines apics-wrong-processors.Post (λ κ s. now (s .0))
+apics-wrong-processors-determined κ a x y s t p q = (p .0 ∙ sym (q .0), p .1 ∙ sym (q .1))
 
-pub apics-wrong-boot-determined : Answers apics-wrong-boot.Post
-apics-wrong-boot-determined κ a x y s t p q = p ∙ sym q
-
-pub apics-misplaced-determined : Answers apics-misplaced.Post
-apics-misplaced-determined κ a x y s t p q = p ∙ sym q
+pub apics-wrong-io-apics-determined : Determines apics-wrong-io-apics.Post (λ κ s. now (s .0))
+apics-wrong-io-apics-determined κ a x y s t p q = (p .0 ∙ sym (q .0), p .1 ∙ sym (q .1))
 
 -- ---- buses
 
-pub buses-list-determined : Answers buses-list.Post
-buses-list-determined κ a x y s t p q = p ∙ sym q
+pub buses-wrong-determined : Determines buses-wrong.Post (λ κ s. now (s .0))
+buses-wrong-determined κ a x y s t p q = (p .0 ∙ sym (q .0), p .1 ∙ sym (q .1))
 
 pub buses-is-listed-determined : Answers buses-is-listed.Post
 buses-is-listed-determined κ a x y s t p q = p ∙ sym q
 
 -- ---- interrupts
 
-pub interrupts-wrong-determined : Answers interrupts-wrong.Post
-interrupts-wrong-determined κ a x y s t p q = p ∙ sym q
+pub interrupts-wrong-io-determined : Answers interrupts-wrong-io.Post
+interrupts-wrong-io-determined κ a x y s t p q = p ∙ sym q
+
+pub interrupts-wrong-local-determined : Answers interrupts-wrong-local.Post
+interrupts-wrong-local-determined κ a x y s t p q = p ∙ sym q
 
 -- ---- spaces
 
 pub spaces-wrong-mappings-determined : Answers spaces-wrong-mappings.Post
 spaces-wrong-mappings-determined κ a x y s t p q = p ∙ sym q
-
-pub spaces-wrong-links-determined : Answers spaces-wrong-links.Post
-spaces-wrong-links-determined κ a x y s t p q = p ∙ sym q
 
 pub spaces-wrong-modifiers-determined : Answers spaces-wrong-modifiers.Post
 spaces-wrong-modifiers-determined κ a x y s t p q = p ∙ sym q
@@ -259,8 +264,8 @@ judge-examine-determined κ a x y s t p q = p ∙ sym q
 
 -- ---- regions
 
-pub regions-of-kind-determined : Answers regions-of-kind.Post
-regions-of-kind-determined κ a x y s t p q = p ∙ sym q
+pub regions-row-determined : Answers regions-row.Post
+regions-row-determined κ a x y s t p q = p ∙ sym q
 
 pub regions-place-of-determined : Decides regions-place-of.ended (λ M 𝓤. regions-place-of.clauses 𝓤)
 regions-place-of-determined M 𝓤 H A mem run κs a g x y s t = both-are 𝓤 x y _
@@ -273,8 +278,8 @@ regions-holding-determined κ a x y s t p q = p ∙ sym q
 
 -- ---- contents
 
-pub contents-read-determined : Answers contents-read.Post
-contents-read-determined κ a x y s t p q = p ∙ sym q
+pub contents-sound-determined : Answers contents-sound.Post
+contents-sound-determined κ a x y s t p q = p ∙ sym q
 
 -- ---- pointers
 
@@ -310,31 +315,16 @@ reader-after-determined κ a x y s t p q = p ∙ sym q
 
 -- ---- text
 
-pub text-has-determined : Answers text-has.Post
-text-has-determined κ a x y s t p q = p ∙ sym q
-
-pub text-word-determined : Determines text-word.Post (λ κ s. now (s .0))
-text-word-determined κ a x y s t p q = (p .0 ∙ sym (q .0), p .1 ∙ sym (q .1))
-
 pub text-width-determined : Answers text-width.Post
 text-width-determined κ a x y s t p q = p .0 ∙ sym (q .0)
 
 pub text-kept-determined : Answers text-kept.Post
 text-kept-determined κ a x y s t p q = p ∙ sym q
 
-pub text-name-determined : Determines text-name.Post (λ κ s. now (s .0))
-text-name-determined κ a x y s t p q = (p .0 ∙ sym (q .0), p .1 ∙ sym (q .1))
-
 -- ---- digits
 
-pub digits-decimal-determined : Determines digits-decimal.Post (λ κ s. now (s .0))
-digits-decimal-determined κ a x y s t p q = (p .0 ∙ sym (q .0), p .1 ∙ sym (q .1))
-
-pub digits-hex8-determined : Determines digits-hex8.Post (λ κ s. now (s .0))
-digits-hex8-determined κ a x y s t p q = (p .0 ∙ sym (q .0), p .1 ∙ sym (q .1))
-
-pub digits-hex16-determined : Determines digits-hex16.Post (λ κ s. now (s .0))
-digits-hex16-determined κ a x y s t p q = (p .0 ∙ sym (q .0), p .1 ∙ sym (q .1))
+pub digits-hex-determined : Answers digits-hex.Post
+digits-hex-determined κ a x y s t p q = p ∙ sym q
 
 -- ---- lines
 
@@ -398,8 +388,8 @@ routes-local-determined κ a x y s t p q = (p .0 ∙ sym (q .0), p .1 ∙ sym (q
 
 -- ---- marks
 
-pub marks-gather-determined : Answers marks-gather.Post
-marks-gather-determined κ a x y s t p q = p ∙ sym q
+pub marks-gather-determined : Leaves marks-gather.Post (λ κ s. both (now (s .0)) (now (s .1 .0)))
+marks-gather-determined κ a x y s t p q = λ i. ((p .0 ∙ sym (q .0)) i, (p .1 ∙ sym (q .1)) i)
 
 -- ---- addresses
 

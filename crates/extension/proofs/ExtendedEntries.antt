@@ -1,18 +1,21 @@
 -- The extended entries: their walk as one of Walks.antt, one entry by itself, what the loops meet at a place, and what an
 -- accepted walk tells of every entry. Assumes nothing.
-use Prim.Native.Nat.{ℕ, zero, suc, _+_, _-_, _≤_, _<_}
+use Prim.Native.Nat.{ℕ, zero, suc, _+_, _-_, _*_, _≤_, _<_}
 use mathlib.Core.Path.{_≡_, refl, ap, sym, _∙_}
 use mathlib.Core.Bool.{Bool, true, false, cond, not, _||_, _&&_, or-true}
 use mathlib.Core.List.{List, [], _∷_}
 use native.Mathlib.Omega.{arith}
+use native.Mathlib.Nat.{add-zero}
 use lib.ListN.{length, getD, take, drop, length-drop, length-take, List·getD-eq-default}
 use lib.Seq.{getD-take, getD-drop, length-take-le}
 use lib.Dec.{eqb, ltb, leb}
 use borrow.Author.Tests.{eqb-true, eq-eqb, ne-eqb, ltb-true, ltb-false, lt-ltb, le-ltb, leb-true, le-leb, not-false}
-use Rattle.mps.specs.Words.{first, flag, every}
+use Rattle.mps.specs.Words.{first, flag, every, part}
+use Rattle.mps.specs.Numbers.{le}
 use Rattle.mps.specs.Layout.{Entry, type, extendedEntryLength, ownLength}
 use Rattle.mps.specs.Table.{extendedFault, extendedFrom}
 use Rattle.laws.proofs.Tests.{and-parts, or-parts, either, whether}
+use Rattle.numbers.proofs.Laws.{le-row}
 use Rattle.laws.proofs.Cut.{cut-next, cut-done}
 use Rattle.extension.specs.declared.ExtendedSections.the-variants.{Ascending, Faulty}
 use Rattle.runs.specs.Runs.{sizeOf, Ran}
@@ -334,3 +337,11 @@ module _
             two-behind .place-is ∙ taken-span extendedOwn 0 128 2 (extendedEntriesIn s) w,
             three-behind .place-is ∙ taken-span extendedOwn 0 128 3 (extendedEntriesIn s) w,
           )
+
+-- ---- Type and length as one number
+
+pub first-two : (s : List ℕ) (place : ℕ) → le 2 (part place (place + 2) s) 0 ≡ getD s place 0 + 256 * getD s (place + 1) 0
+unfolding le
+first-two s place =
+    let width : place + 2 - place ≡ 2 = omega arith in
+    rw (width, le-row 2 2 s place 0 (omega arith), add-zero) (omega arith)

@@ -40,12 +40,11 @@ fn run_of(s: &[u8], at: usize, kind: u8) -> usize
     ensures { λ r. ⌜ Ran extendedOwn kind extendedEntryLength (now (s .entry)) at r ⌝ }
 {
     let size = runs::size_of(kind - layout::MAPPING_TYPE);
+    let first = wide(kind) + 256 * size;
     let mut place = at;
     while size <= s.len() - place {
-        if s[place] != kind {
-            return place;
-        }
-        if wide(s[place + layout::ENTRY_LENGTH]) != size {
+        // Type and length as one number: one load and one test an entry.
+        if numbers::le16(&s[place..place + layout::LEAST_LENGTH], 0) as usize != first {
             return place;
         }
         place += size;

@@ -1,2 +1,3 @@
+pub mod Rows
 pub mod Spots
 pub mod Told

@@ -4,7 +4,7 @@ use mathlib.Core.Path.{_≡_, refl, ap, sym, _∙_}
 use mathlib.Core.Bool.{Bool, true, false, _&&_, true≢false}
 use mathlib.Core.List.{List, [], _∷_, _++_, append-nil}
 use native.Mathlib.Omega.{arith}
-use lib.ListN.{length, take}
+use lib.ListN.{length}
 use lib.Dec.{leb, eqb}
 use borrow.Author.Tests.{leb-true, eq-eqb, ne-eqb}
 use Rattle.mps.specs.Words.{cut, only, keep, any, none, joined}
@@ -16,10 +16,10 @@ use Rattle.laws.proofs.Tests.{whether, and-parts}
 use Rattle.laws.proofs.Lists.{keep-append}
 use Rattle.laws.proofs.Joined.{joined-append}
 use Rattle.laws.proofs.Parts.{length-part, part-part}
-use Rattle.regions.specs.Regions.{blank, eight, firstOfKind}
+use Rattle.regions.specs.Regions.{blank, firstOfKind}
 use Rattle.regions.proofs.Firsts.{first-all}
 use Rattle.contents.proofs.Rules.{sound-parts}
-use Rattle.contents.proofs.Laws.{sound-count, sound-kind, kind-listed, kind-eight, kind-inside}
+use Rattle.contents.proofs.Laws.{sound-kind, kind-listed, kind-inside}
 use Rattle.pointers.specs.declared.Searched.{Searched}
 use Rattle.pointers.specs.declared.Searched.the-variants.{At as Searched·At, Nothing}
 use Rattle.pointers.specs.Search.{searchOf}
@@ -91,16 +91,6 @@ module _ (rs : List Region) {r : Region} (e : r ≡ firstOfKind 1 rs) where
   unfolding searchedFirst
   first-base n f = rw (← e, ne-eqb (r .kind) 1 n) f
 
--- ---- Of eight records
-
-module _ (d : List ℕ) (sound : soundDump d ≡ true) {rs : List Region} (e : rs ≡ eight (regions d)) where
-  pub kind-is : (k : ℕ) → firstOfKind k (take 8 rs) ≡ firstOfKind k (regions d)
-  kind-is k = rw e (kind-eight k (regions d) (sound-count d sound))
-
-  pub first-is : searchedFirst (take 8 rs) ≡ searchedFirst (regions d)
-  unfolding searchedFirst
-  first-is = rw (kind-is 1, kind-is 2)
-
 -- ---- A region whose body is inside the dump, and whose addresses have four bytes
 
 abbrev pub Fits : List ℕ → Region → Type 0
@@ -154,32 +144,24 @@ spots-before : (d : List ℕ) (cs es : List Candidate) {a p : ℕ} → SpotsAt d
 spots-before d [] es s = absurd (true≢false (s .some))
 spots-before d (c ∷ cs) es s = record { some = refl; first = s .first; inside = s .inside }
 
-module _
-    (d : List ℕ) (sound : soundDump d ≡ true) {rs : List Region} (e : rs ≡ eight (regions d))
-    {r : Region} (f : r ≡ searchedFirst (take 8 rs)) where
-  first-region : r ≡ searchedFirst (regions d)
-  first-region = f ∙ first-is d sound e
-
+module _ (d : List ℕ) (sound : soundDump d ≡ true) {r : Region} (f : r ≡ searchedFirst (regions d)) where
   pub first-region-fits : Fits d r
-  first-region-fits = rw first-region (first-fits d sound)
+  first-region-fits = rw f (first-fits d sound)
 
   module _ {x : Spotted} (s : Spots d (keep goodOne (candidates d r)) x) where
     pub spots-first : {a p : ℕ} → x ≡ At a p → Spots d (pointers d) (At a p)
     unfolding Spots
     spots-first q =
         rw (pointers-are d sound)
-        (spots-before d (keep goodOne (candidates d (searchedFirst (regions d)))) _ (rw (q, first-region) at s))
+        (spots-before d (keep goodOne (candidates d (searchedFirst (regions d)))) _ (rw (q, f) at s))
 
-    module _ (q : x ≡ Nowhere) {m : Region} (g : m ≡ firstOfKind 3 (take 8 rs)) where
-      rom-region : m ≡ firstOfKind 3 (regions d)
-      rom-region = g ∙ kind-is d sound e 3
-
+    module _ (q : x ≡ Nowhere) {m : Region} (g : m ≡ firstOfKind 3 (regions d)) where
       pub rom-region-fits : Fits d m
-      rom-region-fits = rw rom-region (kind-fits d sound 3)
+      rom-region-fits = rw g (kind-fits d sound 3)
 
       pub spots-rom : (y : Spotted) → Spots d (keep goodOne (candidates d m)) y → Spots d (pointers d) y
       unfolding Spots
-      spots-rom y w = rw (pointers-are d sound, rw (q, first-region) at s) (rw rom-region at w)
+      spots-rom y w = rw (pointers-are d sound, rw (q, f) at s) (rw g at w)
 
 -- ---- What was spotted, in each of its cases
 

@@ -7,7 +7,7 @@ use mathlib.Core.List.{List, [], _∷_}
 use native.Mathlib.Omega.{arith}
 use lib.ListN.{length, take}
 use lib.Dec.{eqb, ltb}
-use borrow.Author.Tests.{not-true, not-false, eq-eqb, ne-eqb, lt-ltb, le-ltb}
+use borrow.Author.Tests.{eq-eqb, ne-eqb, lt-ltb, le-ltb}
 use Rattle.mps.specs.Words.{byte, part, bit, flag, none}
 use Rattle.mps.specs.Layout.{pointerSize, pointerTable, pointerRevision, feature1, imcr, defaultMost, specRevision, knownRevision}
 use Rattle.mps.specs.Refusals.{refusal, _when_}
@@ -18,26 +18,9 @@ use Rattle.mps.specs.Judge.{pointerRules, told, pointed}
 use Rattle.mps.specs.declared.Region.{Region}
 use Rattle.mps.specs.declared.Held.the-variants.{Default, Table, Refused}
 use Rattle.laws.proofs.Refusals.{refusal-stop, refusal-go, refusal-end}
-use Rattle.contents.specs.declared.Contents.{Contents}
 use Rattle.regions.specs.Regions.{eight}
-use Rattle.contents.specs.Contents.{contents}
-use Rattle.contents.proofs.Laws.{contents-wrong, contents-all, sound-count, holding-eight, holding-inside}
+use Rattle.contents.proofs.Laws.{sound-count, holding-eight, holding-inside}
 use Rattle.finding.specs.Spotted.{SpotsAt}
-
--- ---- What was read of the regions
-
-module _ (d : List ℕ) {x : Contents} (e : x ≡ contents d) where
-  wrong-is : x .wrong ≡ not (soundDump d)
-  wrong-is = rw e (contents-wrong d)
-
-  pub read-wrong : x .wrong ≡ true → soundDump d ≡ false
-  read-wrong t = not-true (soundDump d) (sym wrong-is ∙ t)
-
-  pub read-sound : x .wrong ≡ false → soundDump d ≡ true
-  read-sound f = not-false (soundDump d) (sym wrong-is ∙ f)
-
-  pub read-all : soundDump d ≡ true → x .all ≡ eight (regions d)
-  read-all s = rw e (contents-all d s)
 
 -- ---- The answer from the number
 

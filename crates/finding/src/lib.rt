@@ -3,20 +3,24 @@
 // Promised of any bytes: `find` answers `pointed`. The definition stands in mps's specs/Judge.antt, the rules in
 // specs/Dump.antt and specs/Pointer.antt there. What the search tells the rest is in specs/Spotted.antt; proofs/Spots.antt has
 // what a caller may use of the pointer's place.
+//
+// The rows of the dump are read again for each search. Only the search for the table's region has them as records, which
+// are lent to it as a slice.
 use mps::Held;
 use mps::Region;
 use mps::layout;
 use pointers::Searched;
+use regions::BLANK;
 ghost use mathlib.Core.Path.{_≡_};
 ghost use mathlib.Core.Bool.{true};
-ghost use Prim.Native.Nat.{_+_, _≤_};
-ghost use lib.ListN.{length, take};
+ghost use Prim.Native.Nat.{_+_, _*_, _≤_};
+ghost use lib.ListN.{length};
 ghost use Rattle.mps.specs.Words.{keep};
-ghost use Rattle.mps.specs.Layout.{memoryEnd};
+ghost use Rattle.mps.specs.Layout.{regionsMost, regionCount, rowLength, memoryEnd};
 ghost use Rattle.mps.specs.Dump.{regions as regionsOf, soundDump, endOf};
 ghost use Rattle.mps.specs.Pointer.{candidates, goodOne, pointers as pointersOf};
 ghost use Rattle.mps.specs.Judge.{pointed};
-ghost use Rattle.regions.specs.Regions.{eight};
+ghost use Rattle.regions.specs.Regions.{eight, firstOfKind};
 ghost use Rattle.finding.specs.Spotted.{searchedFirst, Spots, SpotsAt};
 
 // Where the first good pointer was met: its address, and its first byte's place in the dump.
@@ -28,39 +32,66 @@ enum Spotted {
 pub fn find(d: &[u8]) -> Held
     ensures { λ r. ⌜ r ≡ pointed (now (d .entry)) ⌝ }
 {
-    let listed = contents::read(d);
-    if listed.wrong {
+    if !contents::sound(d) {
         return Held::Refused(1);
     }
-    let rs = listed.all;
-    let spotted = spot(d, rs);
+    let spotted = spot(d);
     match spotted {
         Spotted::Nowhere => Held::Refused(2),
-        Spotted::At { address, place } => said(d, rs, address, place),
+        Spotted::At { address, place } => said(d, address, place),
     }
 }
 
 // The search, in its order.
-fn spot(d: &[u8], rs: [Region; 8]) -> Spotted
-    requires { ⌜ (soundDump (now d) ≡ true) × (rs ≡ eight (regionsOf (now d))) ⌝ }
+fn spot(d: &[u8]) -> Spotted
+    requires { ⌜ soundDump (now d) ≡ true ⌝ }
     ensures { λ r. ⌜ Spots (now (d .entry)) (pointersOf (now (d .entry))) r ⌝ }
 {
-    let spotted = spot_in(d, searched_first(rs));
+    let spotted = spot_in(d, searched_first(d));
     match spotted {
         Spotted::At { address, place } => spotted,
-        Spotted::Nowhere => spot_in(d, regions::of_kind(rs, layout::BIOS_ROM)),
+        Spotted::Nowhere => spot_in(d, of_kind(d, layout::BIOS_ROM)),
     }
 }
 
 // The EBDA and, only if none is listed, base memory.
-fn searched_first(rs: [Region; 8]) -> Region
-    ensures { λ r. ⌜ r ≡ searchedFirst (take 8 rs) ⌝ }
+fn searched_first(d: &[u8]) -> Region
+    requires { ⌜ soundDump (now d) ≡ true ⌝ }
+    ensures { λ r. ⌜ r ≡ searchedFirst (regionsOf (now (d .entry))) ⌝ }
 {
-    let r = regions::of_kind(rs, layout::EBDA);
+    let r = of_kind(d, layout::EBDA);
     if r.kind == layout::EBDA {
         return r;
     }
-    regions::of_kind(rs, layout::BASE_MEMORY)
+    of_kind(d, layout::BASE_MEMORY)
+}
+
+// How many regions are listed, and that their rows are there.
+fn listed(d: &[u8]) -> usize
+    requires { ⌜ soundDump (now d) ≡ true ⌝ }
+    ensures { λ r. ⌜ (r ≡ regionCount (now (d .entry))) × (r ≤ regionsMost) × (1 + rowLength * r ≤ length (now (d .entry))) ⌝ }
+{
+    d[layout::REGION_COUNT] as usize
+}
+
+// The first region of a kind, a blank one where none is listed; a caller sees that by its kind.
+fn of_kind(d: &[u8], kind: u8) -> Region
+    requires { ⌜ soundDump (now d) ≡ true ⌝ }
+    ensures { λ r. ⌜ r ≡ firstOfKind kind (regionsOf (now (d .entry))) ⌝ }
+{
+    let count = listed(d);
+    let mut offset = 1 + layout::ROW_LENGTH * count;
+    let mut i = 0;
+    while i < count {
+        let at = 1 + layout::ROW_LENGTH * i;
+        let r = regions::row(&d[at..at + layout::ROW_LENGTH], offset);
+        if r.kind == kind {
+            return r;
+        }
+        offset += r.size as usize;
+        i += 1;
+    }
+    BLANK
 }
 
 fn spot_in(d: &[u8], r: Region) -> Spotted
@@ -79,9 +110,28 @@ fn spot_in(d: &[u8], r: Region) -> Spotted
     }
 }
 
+// All regions as records, for the search for an address.
+fn records(d: &[u8]) -> [Region; 8]
+    requires { ⌜ soundDump (now d) ≡ true ⌝ }
+    ensures { λ r. ⌜ r ≡ eight (regionsOf (now (d .entry))) ⌝ }
+{
+    let count = listed(d);
+    let mut rs = [BLANK; 8];
+    let mut offset = 1 + layout::ROW_LENGTH * count;
+    let mut i = 0;
+    while i < count {
+        let at = 1 + layout::ROW_LENGTH * i;
+        let r = regions::row(&d[at..at + layout::ROW_LENGTH], offset);
+        rs[i] = r;
+        offset += r.size as usize;
+        i += 1;
+    }
+    rs
+}
+
 // 3 and 4, and then what the pointer tells.
-fn said(d: &[u8], rs: [Region; 8], address: u32, place: usize) -> Held
-    requires { ⌜ (soundDump (now d) ≡ true) × (rs ≡ eight (regionsOf (now d))) ⌝ }
+fn said(d: &[u8], address: u32, place: usize) -> Held
+    requires { ⌜ soundDump (now d) ≡ true ⌝ }
     requires { ⌜ SpotsAt (now d) (pointersOf (now d)) address place ⌝ }
     ensures { λ r. ⌜ r ≡ pointed (now (d .entry)) ⌝ }
 {
@@ -105,7 +155,7 @@ fn said(d: &[u8], rs: [Region; 8], address: u32, place: usize) -> Held
     if table == 0 {
         return Held::Refused(4);
     }
-    let r = regions::holding(rs, table);
+    let r = regions::holding(records(d), table);
     Held::Table {
         pointer: address,
         imcr,

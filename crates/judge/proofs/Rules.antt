@@ -1,81 +1,69 @@
--- The rules 14 to 18 in the words of the crates that test them: sets in the place of lists, and the rows between two places
--- in the place of the entries of a type. Assumes nothing.
-use Prim.Native.Nat.{ℕ, suc, _-_, _%_}
-use mathlib.Core.Path.{_≡_, refl, sym, ap, _∙_}
-use mathlib.Core.Bool.{Bool, true, false, not, _||_, or-false, or-assoc}
-use mathlib.Core.List.{List, [], _∷_}
-use native.Mathlib.Omega.{arith}
-use lib.ListN.{length, drop}
+-- The rules 14 to 18 in the words of the crates that test them: the roll in the place of lists, and the rows between two places
+-- in the place of the entries of a type; and what the roll shows behind each rule. Assumes nothing.
+use Prim.Native.Nat.{ℕ, _-_, _%_, _<_}
+use mathlib.Core.Path.{_≡_, refl, sym, _∙_}
+use mathlib.Core.Bool.{Bool, true, false, not, _||_, _&&_, or-true, or-false, or-assoc, and-true, and-false}
+use mathlib.Core.List.{List, []}
+use lib.ListN.{length, drop, replicate, length-replicate}
 use lib.Dec.{eqb}
-use Rattle.mps.specs.Words.{part, among, twice, common, keep, any, every, each}
+use Rattle.mps.specs.Words.{part, bit, among, twice, keep, any, every, each}
 use Rattle.mps.specs.Layout.{ofType, headerSize, baseEntries, extendedEntries, localApic, localApicStep, everyone, enabled, extendedBus}
 use Rattle.mps.specs.Layout.{processorType, busType, ioApicType, ioInterruptType, localInterruptType, mappingType, hierarchyType, modifierType, baseEntryLength, extendedEntryLength, baseLength, extendedEnd, basePart, extendedPart}
-use Rattle.mps.specs.Rules.{enabledOf, idsOf, enabledIds, bootstraps, wrongProcessors, wrongBuses, misplaced, wrongIoApics, wrongInterrupt, wrongInput, wrongOnSide, wrongInterrupts, links, circle}
+use Rattle.mps.specs.Rules.{enabledOf, idsOf, enabledIds, bootstraps, wrongProcessors, wrongBuses, wrongIoApics, wrongInterrupt, wrongInput, wrongOnSide, wrongInterrupts, links, circle}
 use Rattle.mps.specs.Rules.{wrongMapping, wrongHierarchy, wrongModifier, wrongSpaces}
 use Rattle.mps.specs.Sections.{rows}
 use Rattle.mps.specs.declared.Sections.{Sections}
-use Rattle.laws.proofs.Tests.{eqb-comm, or-four}
-use Rattle.laws.proofs.Small.{Bytes, Small, bytes-take, bytes-drop, small-cut, small-keep, below-each, any-same, any-or}
-use Rattle.sets.specs.Sets.{putAll, noNumbers, holds, withNumber}
-use Rattle.sets.proofs.Laws.{twiceIn, twice-in, holds-all, holds-put, holds-empty}
-use Rattle.apics.specs.declared.Claimed.{Claimed}
-use Rattle.apics.specs.Apics.{claimed, wrongBoot}
-use Rattle.apics.proofs.Laws.{claimed-twice, claimed-taken, claimed-all}
-use Rattle.buses.specs.Buses.{listed}
-use Rattle.buses.proofs.Laws.{listed-wrong, listed-ids}
+use Rattle.laws.proofs.Small.{Bytes, Small, bytes-take, bytes-drop, small-cut, small-keep, small-rows, any-same, any-or}
+use Rattle.roll.specs.Roll.{marked, withMarks}
+use Rattle.roll.specs.Calls.{called}
+use Rattle.roll.proofs.Laws.{length-marks, marked-put, marked-none, length-called}
+use Rattle.apics.specs.Apics.{processorCall, ioApicCall, wrongProcessorsIn}
+use Rattle.apics.proofs.Laws.{cpus-wrong, cpus-listed, cpus-taken, cpus-keep, ios-wrong, ios-listed, ios-keep}
+use Rattle.buses.specs.Buses.{busCall}
+use Rattle.buses.proofs.Laws.{buses-wrong, buses-listed, buses-keep}
 use Rattle.interrupts.specs.Interrupts.{wrongInterruptIn}
 use Rattle.interrupts.proofs.Laws.{wrong-interrupt-io, wrong-interrupt-local}
-use Rattle.spaces.specs.Spaces.{wrongMappingIn, wrongHierarchyIn, wrongModifierIn}
-use Rattle.spaces.proofs.Laws.{wrong-mapping-in, wrong-hierarchy-in, wrong-modifier-in}
-use Rattle.parents.specs.Parents.{wrongParents}
+use Rattle.spaces.specs.Spaces.{wrongMappingIn, wrongModifierIn}
+use Rattle.spaces.proofs.Laws.{wrong-mapping-in, wrong-modifier-in}
+use Rattle.parents.specs.Parents.{wrongLinks}
+use Rattle.parents.proofs.Laws.{wrong-links-in}
 use Rattle.judge.specs.Placed.{Placed}
-use Rattle.judge.specs.Stages.{idSet, only255, takenSet}
+use Rattle.judge.specs.Rolled.{nobody, listed, taken, Rolled, Named}
 
--- ---- Tests, gathered in another order
+-- ---- The roll that the judge begins with: 255 is taken, and nothing else is in it
 
-five : (a b c d e : Bool) → (a || b || c || d || e) ≡ (a || (b || c) || (d || e))
-five true b c d e = refl
-five false true c d e = refl
-five false false true d e = refl
-five false false false d e = refl
+abbrev started : List ℕ
+started = withMarks 2 (replicate 256 0) everyone
 
-swapped : (m w c d : Bool) → (m || w || c || d) ≡ ((c || m || w) || d)
-swapped true w true d = refl
-swapped true w false d = refl
-swapped false true true d = refl
-swapped false true false d = refl
-swapped false false c d = ap (λ (x : Bool). x || d) (sym (ap (λ (x : Bool). x || false) (or-false c) ∙ or-false c))
+begins : (j y : ℕ) → y < 256 → marked j started y ≡ (eqb y everyone && bit j 2)
+begins j y h =
+    marked-put j 2 (replicate 256 0) everyone y (rw (length-replicate {A = ℕ} 256 0) h)
+    ∙ rw (marked-none j 256 y) (or-false (eqb y everyone && bit j 2))
 
--- ---- The IDs that are taken
+pub starts : Rolled started nobody (λ (y : ℕ). among y [] || eqb y everyone) nobody nobody
+unfolding bit among
+starts = record {
+  size = length-marks 2 (replicate 256 0) everyone ∙ length-replicate {A = ℕ} 256 0;
+  cpus-shown = λ y h. begins 0 y h ∙ and-false (eqb y everyone);
+  claimed-shown = λ y h. begins 1 y h ∙ and-true (eqb y everyone);
+  ioapics-shown = λ y h. begins 2 y h ∙ and-false (eqb y everyone);
+  buses-shown = λ y h. begins 3 y h ∙ and-false (eqb y everyone);
+}
 
-common-none : (ids : List ℕ) → common ids [] ≡ false
-unfolding common among
-common-none [] = refl
-common-none (x ∷ ids) = common-none ids
+five : (l n b a t : Bool) → (l || n || b || a || t) ≡ (l || (n || b || a || t))
+five true n b a t = refl
+five false n b a t = refl
 
--- Whether an ID of a list is 255 or one of those that were put to it.
-pub any-taken : (cs ids : List ℕ) → Bytes ids → any (holds (putAll only255 cs)) ids ≡ (common ids cs || among everyone ids)
-unfolding any common among only255
-any-taken cs [] b = refl
-any-taken cs (x ∷ ids) b =
-    rw (
-      any-taken cs ids (λ i. b (suc i)),
-      holds-all (withNumber noNumbers everyone) cs x (b 0),
-      holds-put noNumbers everyone x (b 0),
-      holds-empty x,
-      or-false,
-      eqb-comm x everyone,
-    )
-    (or-four (among x cs) (eqb everyone x) (common ids cs) (among everyone ids))
-
--- Whether an ID is 255, one of those put to it, or met before.
-pub twice-taken : (cs ids : List ℕ) → Bytes ids → twiceIn (putAll only255 cs) ids ≡ (common ids cs || among everyone ids || twice ids)
-twice-taken cs ids b = twice-in (putAll only255 cs) ids (λ i l. b i) ∙ rw (any-taken cs ids b)
+links-last : (m l o t c : Bool) → (m || l || o || t || c) ≡ (m || o || (l || (t || c)))
+links-last true l o t c = refl
+links-last false true o t c = sym (or-true o)
+links-last false false true t c = refl
+links-last false false false t c = refl
 
 -- ---- What the rules say of a table whose sections are known
 
 module _ (t : List ℕ) (p : Sections) (h : Placed t p) where
-  -- The bytes of each section, and the IDs that are taken.
+  -- The bytes of each section.
   abbrev processorBytes : List ℕ
   processorBytes = part headerSize (p .buses) t
 
@@ -96,125 +84,137 @@ module _ (t : List ℕ) (p : Sections) (h : Placed t p) where
   unfolding extendedEntries
   small-extended = small-cut extendedEntryLength 0 (extendedPart t) (bytes-part (baseLength t) (extendedEnd t))
 
-  below-ids : (n : ℕ) → Bytes (enabledIds n (baseEntries t))
-  unfolding enabledIds enabledOf
-  below-ids n = below-each 1 (small-keep enabled (small-keep (ofType n) small-base))
-
   -- ---- 14
 
-  -- What the processors claim.
-  unfoldable pub cpus : Claimed
-  cpus = claimed 20 only255 processorBytes
-
-  cpus-twice : cpus .twice ≡ (among everyone (enabledIds processorType (baseEntries t)) || twice (enabledIds processorType (baseEntries t)))
-  unfolding cpus enabledIds enabledOf putAll
-  cpus-twice =
-      let ids = enabledIds processorType (baseEntries t) in
-      rw (claimed-twice 20 only255 processorBytes (omega arith), ← h .processors)
-      (twice-taken [] ids (below-ids processorType) ∙ ap (λ (x : Bool). x || among everyone ids || twice ids) (common-none ids))
-
-  pub rule-14 : wrongProcessors t ≡ (not (eqb (localApic t % localApicStep) 0) || wrongBoot (rows 20 processorBytes) || cpus .twice)
-  unfolding wrongProcessors wrongBoot bootstraps
+  pub rule-14 : wrongProcessors t ≡ (not (eqb (localApic t % localApicStep) 0) || wrongProcessorsIn started (rows 20 processorBytes))
+  unfolding wrongProcessors bootstraps enabledIds enabledOf
   rule-14 =
       let boots = bootstraps (baseEntries t) in
       let ids = enabledIds processorType (baseEntries t) in
-      rw (← h .processors, cpus-twice)
+      rw (cpus-wrong started (starts .size) (rows 20 processorBytes) (small-rows 20 processorBytes (bytes-part headerSize (p .buses))) (starts .claimed-shown), ← h .processors)
       (five (not (eqb (localApic t % localApicStep) 0)) (not (eqb (length boots) 1)) (not (every enabled boots)) (among everyone ids) (twice ids))
 
-  pub cpus-taken : cpus .twice ≡ false → cpus .taken ≡ takenSet t
-  unfolding cpus enabledIds enabledOf takenSet
-  cpus-taken n = claimed-taken 20 only255 processorBytes (omega arith) n ∙ rw (← h .processors)
+  module _ (fine : wrongProcessorsIn started (rows 20 processorBytes) ≡ false) where
+    abbrev cpusRoll : List ℕ
+    cpusRoll = called processorCall started (rows 20 processorBytes) .roll
 
-  pub cpus-all : cpus .twice ≡ false → cpus .all ≡ idSet processorType t
-  unfolding cpus idSet idsOf
-  cpus-all n = claimed-all 20 only255 processorBytes (omega arith) n ∙ rw (← h .processors)
+    pub next-14 : Rolled cpusRoll (listed processorType t) (taken t) nobody nobody
+    unfolding idsOf enabledIds enabledOf among bit
+    next-14 =
+        let es = rows 20 processorBytes in
+        record {
+          size = length-called processorCall started es ∙ starts .size;
+          cpus-shown = λ y b.
+              cpus-listed started (starts .size) es fine y b ∙ rw (starts .cpus-shown y b, ← h .processors) (or-false _);
+          claimed-shown = λ y b. cpus-taken started (starts .size) es fine y b ∙ rw (starts .claimed-shown y b, ← h .processors);
+          ioapics-shown = λ y b. cpus-keep started (starts .size) es fine y b 2 refl refl ∙ starts .ioapics-shown y b;
+          buses-shown = λ y b. cpus-keep started (starts .size) es fine y b 3 refl refl ∙ starts .buses-shown y b;
+        }
 
   -- ---- 15
 
-  pub rule-15 : wrongBuses (baseEntries t) ≡ listed busBytes .wrong
-  unfolding wrongBuses idsOf
-  rule-15 = sym (listed-wrong busBytes (bytes-part (p .buses) (p .ioapics)) ∙ rw (← h .buses))
+  module _ {roll : List ℕ} (r : Rolled roll (listed processorType t) (taken t) nobody nobody) where
+    pub rule-15 : wrongBuses (baseEntries t) ≡ called busCall roll (rows 8 busBytes) .wrong
+    unfolding wrongBuses idsOf
+    rule-15 =
+        let small = small-rows 8 busBytes (bytes-part (p .buses) (p .ioapics)) in
+        sym (buses-wrong roll (r .size) (rows 8 busBytes) small (r .buses-shown) ∙ rw (← h .buses))
 
-  pub bus-ids : listed busBytes .wrong ≡ false → listed busBytes .ids ≡ idSet busType t
-  unfolding idSet idsOf
-  bus-ids n = listed-ids busBytes n ∙ rw (← h .buses)
+    pub next-15 :
+        called busCall roll (rows 8 busBytes) .wrong ≡ false
+        → Rolled (called busCall roll (rows 8 busBytes) .roll) (listed processorType t) (taken t) nobody (listed busType t)
+    unfolding idsOf bit
+    next-15 fine = record {
+      size = length-called busCall roll (rows 8 busBytes) ∙ r .size;
+      cpus-shown = λ y b. buses-keep roll (r .size) (rows 8 busBytes) fine y b 0 refl ∙ r .cpus-shown y b;
+      claimed-shown = λ y b. buses-keep roll (r .size) (rows 8 busBytes) fine y b 1 refl ∙ r .claimed-shown y b;
+      ioapics-shown = λ y b. buses-keep roll (r .size) (rows 8 busBytes) fine y b 2 refl ∙ r .ioapics-shown y b;
+      buses-shown = λ y b. buses-listed roll (r .size) (rows 8 busBytes) fine y b (r .buses-shown) ∙ rw (← h .buses);
+    }
 
   -- ---- 16
 
-  -- What the I/O APICs claim behind the processors.
-  unfoldable pub ios : Claimed
-  ios = claimed 8 (takenSet t) apicBytes
+  module _ {roll : List ℕ} (r : Rolled roll (listed processorType t) (taken t) nobody (listed busType t)) where
+    pub rule-16 : wrongIoApics (baseEntries t) ≡ called ioApicCall roll (rows 8 apicBytes) .wrong
+    unfolding wrongIoApics enabledIds enabledOf
+    rule-16 =
+        let small = small-rows 8 apicBytes (bytes-part (p .ioapics) (p .interrupts)) in
+        sym (ios-wrong roll (r .size) (rows 8 apicBytes) small (enabledIds processorType (baseEntries t)) (r .claimed-shown) ∙ rw (← h .ioapics))
 
-  ios-twice : ios .twice
-      ≡ (common (enabledIds ioApicType (baseEntries t)) (enabledIds processorType (baseEntries t))
-      || among everyone (enabledIds ioApicType (baseEntries t))
-      || twice (enabledIds ioApicType (baseEntries t)))
-  unfolding ios enabledIds enabledOf takenSet
-  ios-twice =
-      rw (claimed-twice 8 (takenSet t) apicBytes (omega arith), ← h .ioapics)
-      (twice-taken (enabledIds processorType (baseEntries t)) (enabledIds ioApicType (baseEntries t)) (below-ids ioApicType))
+    module _ (fine : called ioApicCall roll (rows 8 apicBytes) .wrong ≡ false) where
+      abbrev ioRoll : List ℕ
+      ioRoll = called ioApicCall roll (rows 8 apicBytes) .roll
 
-  pub rule-16 : wrongIoApics (baseEntries t) ≡ (ios .twice || any misplaced (keep enabled (rows 8 apicBytes)))
-  unfolding wrongIoApics enabledOf
-  rule-16 =
-      let ids = enabledIds ioApicType (baseEntries t) in
-      rw (ios-twice, ← h .ioapics)
-      (swapped (among everyone ids) (twice ids) (common ids (enabledIds processorType (baseEntries t)))
-      (any misplaced (enabledOf ioApicType (baseEntries t))))
+      size : length ioRoll ≡ 256
+      size = length-called ioApicCall roll (rows 8 apicBytes) ∙ r .size
 
-  pub ios-all : ios .twice ≡ false → ios .all ≡ idSet ioApicType t
-  unfolding ios idSet idsOf
-  ios-all n = claimed-all 8 (takenSet t) apicBytes (omega arith) n ∙ rw (← h .ioapics)
+      -- 255 as a destination.
+      put : (j y : ℕ) → y < 256 → marked j (withMarks 5 ioRoll everyone) y ≡ (eqb y everyone && bit j 5 || marked j ioRoll y)
+      put j y b = marked-put j 5 ioRoll everyone y (rw size b)
 
-  -- ---- 17, with the sets of the listed buses, I/O APICs and processors
+      pub next-16 : Named t (withMarks 5 ioRoll everyone)
+      unfolding idsOf bit
+      next-16 =
+          let es = rows 8 apicBytes in
+          record {
+            cpus-shown = λ y b. put 0 y b ∙ rw (ios-keep roll (r .size) es fine y b 0 refl refl, r .cpus-shown y b, and-true (eqb y everyone));
+            ioapics-shown = λ y b.
+                put 2 y b
+                ∙ rw (ios-listed roll (r .size) es fine y b, r .ioapics-shown y b, and-true (eqb y everyone), or-false, ← h .ioapics);
+            buses-shown = λ y b. put 3 y b ∙ rw (ios-keep roll (r .size) es fine y b 3 refl refl, r .buses-shown y b, and-false (eqb y everyone));
+          }
+
+  -- ---- 17
 
   small-of : (n : ℕ) → Small (keep (ofType n) (baseEntries t))
   small-of n = small-keep (ofType n) small-base
 
-  pub rule-17 :
-      wrongInterrupts (baseEntries t)
-      ≡ (any (wrongInterruptIn (idSet busType t) (idSet ioApicType t) 255) (rows 8 (part (p .interrupts) (p .locals) t))
-      || any (wrongInterruptIn (idSet busType t) (idSet processorType t) 1) (rows 8 (part (p .locals) (p .mappings) t)))
-  unfolding wrongInterrupts wrongOnSide idSet
-  rule-17 =
-      let es = baseEntries t in
-      let io = wrongInterrupt es ioApicType in
-      let locally = wrongInterrupt es processorType in
-      let ls = keep (ofType localInterruptType) es in
-      or-assoc (any io (keep (ofType ioInterruptType) es)) (any locally ls) (any wrongInput ls)
-      ∙ rw (
-        ← any-or locally wrongInput ls,
-        ← h .interrupts,
-        ← h .locals,
-        any-same (wrongInterruptIn (idSet busType t) (idSet ioApicType t) 255) io (λ e c. wrong-interrupt-io es ioApicType e c) (small-of ioInterruptType),
-        any-same (wrongInterruptIn (idSet busType t) (idSet processorType t) 1) (λ e. locally e || wrongInput e) (λ e c. wrong-interrupt-local es processorType e c) (small-of localInterruptType),
-      )
+  module _ {roll : List ℕ} (r : Named t roll) where
+    pub rule-17 :
+        wrongInterrupts (baseEntries t)
+        ≡ (any (wrongInterruptIn roll 2 255) (rows 8 (part (p .interrupts) (p .locals) t))
+        || any (wrongInterruptIn roll 0 1) (rows 8 (part (p .locals) (p .mappings) t)))
+    unfolding wrongInterrupts wrongOnSide
+    rule-17 =
+        let es = baseEntries t in
+        let io = wrongInterrupt es ioApicType in
+        let locally = wrongInterrupt es processorType in
+        let ls = keep (ofType localInterruptType) es in
+        or-assoc (any io (keep (ofType ioInterruptType) es)) (any locally ls) (any wrongInput ls)
+        ∙ rw (
+          ← any-or locally wrongInput ls,
+          ← h .interrupts,
+          ← h .locals,
+          any-same (wrongInterruptIn roll 2 255) io (wrong-interrupt-io es roll (r .buses-shown) ioApicType 2 (r .ioapics-shown)) (small-of ioInterruptType),
+          any-same (wrongInterruptIn roll 0 1) (λ e. locally e || wrongInput e) (wrong-interrupt-local es roll (r .buses-shown) processorType 0 (r .cpus-shown)) (small-of localInterruptType),
+        )
 
-  -- ---- 18
+    -- ---- 18
 
-  small-more-of : (n : ℕ) → Small (keep (ofType n) (extendedEntries t))
-  small-more-of n = small-keep (ofType n) small-extended
+    small-more-of : (n : ℕ) → Small (keep (ofType n) (extendedEntries t))
+    small-more-of n = small-keep (ofType n) small-extended
 
-  pub rule-18 :
-      wrongSpaces (baseEntries t) (extendedEntries t)
-      ≡ (any (wrongMappingIn (idSet busType t)) (rows 20 (part (p .mappings) (p .links) t))
-      || any (wrongHierarchyIn (idSet busType t)) (rows 8 (part (p .links) (p .modifiers) t))
-      || any (wrongModifierIn (idSet busType t)) (rows 8 (part (p .modifiers) (p .others) t))
-      || wrongParents (rows 8 (part (p .links) (p .modifiers) t)))
-  unfolding wrongSpaces links wrongParents idSet
-  rule-18 =
-      let es = baseEntries t in
-      let xs = extendedEntries t in
-      let ls = links xs in
-      rw (
-        ← h .mappings,
-        ← h .links,
-        ← h .modifiers,
-        any-same (wrongMappingIn (idSet busType t)) (wrongMapping es) (λ e c. wrong-mapping-in es e c) (small-more-of mappingType),
-        any-same (wrongHierarchyIn (idSet busType t)) (wrongHierarchy es) (λ e c. wrong-hierarchy-in es e c) (small-more-of hierarchyType),
-        any-same (wrongModifierIn (idSet busType t)) (wrongModifier es) (λ e c. wrong-modifier-in es e c) (small-more-of modifierType),
-      )
-      (or-assoc
-      (any (wrongMapping es) (keep (ofType mappingType) xs) || any (wrongHierarchy es) ls || any (wrongModifier es) (keep (ofType modifierType) xs))
-      (twice (each extendedBus ls))
-      (circle ls))
+    pub rule-18 :
+        wrongSpaces (baseEntries t) (extendedEntries t)
+        ≡ (any (wrongMappingIn roll) (rows 20 (part (p .mappings) (p .links) t))
+        || any (wrongModifierIn roll) (rows 8 (part (p .modifiers) (p .others) t))
+        || wrongLinks roll (rows 8 (part (p .links) (p .modifiers) t)))
+    unfolding wrongSpaces links
+    rule-18 =
+        let es = baseEntries t in
+        let xs = extendedEntries t in
+        let ls = links xs in
+        rw (
+          ← h .mappings,
+          ← h .links,
+          ← h .modifiers,
+          any-same (wrongMappingIn roll) (wrongMapping es) (wrong-mapping-in es roll (r .buses-shown)) (small-more-of mappingType),
+          wrong-links-in es roll (r .buses-shown) (small-more-of hierarchyType),
+          any-same (wrongModifierIn roll) (wrongModifier es) (wrong-modifier-in es roll (r .buses-shown)) (small-more-of modifierType),
+        )
+        (links-last
+        (any (wrongMapping es) (keep (ofType mappingType) xs))
+        (any (wrongHierarchy es) ls)
+        (any (wrongModifier es) (keep (ofType modifierType) xs))
+        (twice (each extendedBus ls))
+        (circle ls))

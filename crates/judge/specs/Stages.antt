@@ -1,19 +1,16 @@
 -- The rows of the table of refusals as the judge comes to them: the header's (5 to 9), the walk's (10 to 12), the extended
--- part's (13), then one rule after the other; the sets that the later rules are given; and what is known on the way.
+-- part's (13), then one rule after the other; and what is known on the way.
 use Prim.Native.Nat.{ℕ}
 use mathlib.Core.Path.{_≡_}
 use mathlib.Core.List.{List}
 use lib.ListN.{take, drop}
 use Rattle.mps.specs.Refusals.{Rule, refusal}
-use Rattle.mps.specs.Layout.{processorType, everyone, baseLength, basePart, entryCount, baseEntries}
-use Rattle.mps.specs.Rules.{idsOf, enabledIds}
+use Rattle.mps.specs.Layout.{baseLength, basePart, entryCount}
 use Rattle.mps.specs.Sections.{baseAfter, sections}
 use Rattle.mps.specs.Judge.{tableRules, tableRefusal}
 use Rattle.mps.specs.declared.Sections.{Sections}
 use Rattle.header.specs.Header.{headerRefusal}
 use Rattle.sections.specs.Base.{baseFault}
-use Rattle.sets.specs.declared.Numbers.{Numbers}
-use Rattle.sets.specs.Sets.{putAll, noNumbers, withNumber}
 use Rattle.judge.specs.Placed.{Placed}
 
 -- ---- The rows
@@ -41,20 +38,6 @@ from17 t = drop 1 (from16 t)
 
 unfoldable pub from18 : List ℕ → List Rule
 from18 t = drop 1 (from17 t)
-
--- ---- The sets
-
--- The IDs of the entries of one type, enabled or not.
-unfoldable pub idSet : ℕ → List ℕ → Numbers
-idSet n t = putAll noNumbers (idsOf n (baseEntries t))
-
--- The set that 255 alone is in: no enabled APIC may have it.
-unfoldable pub only255 : Numbers
-only255 = withNumber noNumbers everyone
-
--- The IDs that no enabled I/O APIC may have: 255, and those of enabled processors.
-unfoldable pub takenSet : List ℕ → Numbers
-takenSet t = putAll only255 (enabledIds processorType (baseEntries t))
 
 -- ---- What is known on the way
 

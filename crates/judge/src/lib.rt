@@ -6,7 +6,7 @@
 // and that those of an accepted table are so is a law of proofs/Laws.antt.
 //
 // The tests are made in the order of the numbers, each over the bytes that it speaks of and no others: the header, the
-// walks, then the entries of one type after the other, with the sets of IDs that the rules before have met. No byte is
+// walks, then the entries of one type after the other, with the roll of the IDs that the rules before have met. No byte is
 // looked at more than a fixed number of times.
 use extension::ExtendedSections;
 use mps::Examined;
@@ -14,13 +14,13 @@ use mps::Judged;
 use mps::Sections;
 use mps::layout;
 use sections::BaseSections;
-use sets::Numbers;
 ghost use mathlib.Core.Path.{_≡_};
-ghost use Rattle.mps.specs.Layout.{processorType, busType, ioApicType};
+ghost use Rattle.mps.specs.Layout.{processorType, busType};
 ghost use Rattle.mps.specs.Refusals.{refusal as refusalOf};
 ghost use Rattle.mps.specs.Judge.{tableRefusal, judged, examined};
 ghost use Rattle.judge.specs.Placed.{Placed};
-ghost use Rattle.judge.specs.Stages.{from14, from15, from16, from17, from18, idSet, takenSet, Walked, Ready};
+ghost use Rattle.judge.specs.Stages.{from14, from15, from16, from17, from18, Walked, Ready};
+ghost use Rattle.judge.specs.Rolled.{nobody, listed, taken, Rolled, Named};
 
 pub fn judge(t: &[u8]) -> Judged
     ensures { λ r. ⌜ r ≡ judged (now (t .entry)) ⌝ }
@@ -133,92 +133,78 @@ fn from_14(t: &[u8], p: Sections) -> u8
     if numbers::le32(t, layout::LOCAL_APIC) % layout::LOCAL_APIC_STEP != 0 {
         return 14;
     }
-    let entries = &t[layout::HEADER_SIZE..end];
-    if apics::wrong_boot(entries) {
+    let mut roll: [u8; 256] = [0; 256];
+    roll::put(&mut roll, layout::EVERYONE, roll::TAKEN_MARK);
+    if apics::wrong_processors(&mut roll, &t[layout::HEADER_SIZE..end]) {
         return 14;
     }
-    let only255 = sets::put(sets::empty(), layout::EVERYONE);
-    let cpus = apics::claim(entries, layout::PROCESSOR_SIZE, only255);
-    if cpus.twice {
-        return 14;
-    }
-    from_15(t, p, cpus.all, cpus.taken)
+    from_15(t, p, &mut roll)
 }
 
 // 15: the buses.
-fn from_15(t: &[u8], p: Sections, cpus: Numbers, taken: Numbers) -> u8
+fn from_15(t: &[u8], p: Sections, roll: &mut [u8; 256]) -> u8
     requires { ⌜ Placed (now t) p ⌝ }
-    requires { ⌜ (cpus ≡ idSet processorType (now t)) × (taken ≡ takenSet (now t)) ⌝ }
+    requires { ⌜ Rolled (now roll) (listed processorType (now t)) (taken (now t)) nobody nobody ⌝ }
     ensures { λ r. ⌜ r ≡ refusalOf (from15 (now (t .entry))) ⌝ }
 {
     let start = p.buses;
     let end = p.ioapics;
-    let listed = buses::list(&t[start..end]);
-    if listed.wrong {
+    if buses::wrong(roll, &t[start..end]) {
         return 15;
     }
-    from_16(t, p, listed.ids, cpus, taken)
+    from_16(t, p, roll)
 }
 
-// 16: the I/O APICs. `taken` are the IDs of enabled processors, and 255.
-fn from_16(t: &[u8], p: Sections, buses: Numbers, cpus: Numbers, taken: Numbers) -> u8
+// 16: the I/O APICs. Behind them 255 is as good a destination as a processor or an I/O APIC that is listed: it names all.
+fn from_16(t: &[u8], p: Sections, roll: &mut [u8; 256]) -> u8
     requires { ⌜ Placed (now t) p ⌝ }
-    requires { ⌜ (buses ≡ idSet busType (now t)) × (cpus ≡ idSet processorType (now t)) × (taken ≡ takenSet (now t)) ⌝ }
+    requires { ⌜ Rolled (now roll) (listed processorType (now t)) (taken (now t)) nobody (listed busType (now t)) ⌝ }
     ensures { λ r. ⌜ r ≡ refusalOf (from16 (now (t .entry))) ⌝ }
 {
     let start = p.ioapics;
     let end = p.interrupts;
-    let entries = &t[start..end];
-    let ios = apics::claim(entries, layout::ENTRY_SIZE, taken);
-    if ios.twice {
+    if apics::wrong_io_apics(roll, &t[start..end]) {
         return 16;
     }
-    if apics::misplaced(entries) {
-        return 16;
-    }
-    from_17(t, p, buses, ios.all, cpus)
+    roll::put(roll, layout::EVERYONE, roll::APIC_MARKS);
+    from_17(t, p, roll)
 }
 
 // 17: what the interrupt entries of both sides say, with the listed buses, I/O APICs and processors.
-fn from_17(t: &[u8], p: Sections, buses: Numbers, ioapics: Numbers, cpus: Numbers) -> u8
+fn from_17(t: &[u8], p: Sections, roll: &[u8; 256]) -> u8
     requires { ⌜ Placed (now t) p ⌝ }
-    requires { ⌜ (buses ≡ idSet busType (now t)) × (ioapics ≡ idSet ioApicType (now t)) × (cpus ≡ idSet processorType (now t)) ⌝ }
+    requires { ⌜ Named (now t) (now roll) ⌝ }
     ensures { λ r. ⌜ r ≡ refusalOf (from17 (now (t .entry))) ⌝ }
 {
     let start = p.interrupts;
     let locals = p.locals;
     let end = p.mappings;
-    if interrupts::wrong(&t[start..locals], buses, ioapics, layout::INPUT_MOST) {
+    if interrupts::wrong_io(&t[start..locals], roll) {
         return 17;
     }
-    if interrupts::wrong(&t[locals..end], buses, cpus, layout::LOCAL_INPUT_MOST) {
+    if interrupts::wrong_local(&t[locals..end], roll) {
         return 17;
     }
-    from_18(t, p, buses)
+    from_18(t, p, roll)
 }
 
 // 18: what the extended entries say, with the listed buses.
-fn from_18(t: &[u8], p: Sections, buses: Numbers) -> u8
+fn from_18(t: &[u8], p: Sections, roll: &[u8; 256]) -> u8
     requires { ⌜ Placed (now t) p ⌝ }
-    requires { ⌜ buses ≡ idSet busType (now t) ⌝ }
+    requires { ⌜ Named (now t) (now roll) ⌝ }
     ensures { λ r. ⌜ r ≡ refusalOf (from18 (now (t .entry))) ⌝ }
 {
     let start = p.mappings;
     let links = p.links;
     let modifiers = p.modifiers;
     let others = p.others;
-    if spaces::wrong_mappings(&t[start..links], buses) {
+    if spaces::wrong_mappings(&t[start..links], roll) {
         return 18;
     }
-    let tree = &t[links..modifiers];
-    if spaces::wrong_links(tree, buses) {
+    if spaces::wrong_modifiers(&t[modifiers..others], roll) {
         return 18;
     }
-    let changes = &t[modifiers..others];
-    if spaces::wrong_modifiers(changes, buses) {
-        return 18;
-    }
-    if parents::wrong(tree) {
+    if parents::wrong(&t[links..modifiers], roll) {
         return 18;
     }
     0

@@ -1,19 +1,19 @@
 -- The lines of base entries, from their words. Assumes nothing.
-use Prim.Native.Nat.{ℕ, _/_, _%_, _<_, min}
-use mathlib.Core.Path.{_≡_}
+use Prim.Native.Nat.{ℕ, _+_, _/_, _%_, _<_}
+use mathlib.Core.Path.{_≡_, refl}
 use mathlib.Core.Bool.{false}
 use mathlib.Core.List.{List, [], _∷_}
 use native.Mathlib.Nat.{div-one}
 use native.Mathlib.Omega.{arith}
 use borrow.Author.Tests.{ne-eqb}
 use lib.Dec.{eqb}
-use lib.ListN.{length}
-use Rattle.mps.specs.Words.{text, bit, byte, part}
-use Rattle.mps.specs.Numbers.{le}
-use Rattle.mps.specs.Layout.{Entry, polarity, trigger, destination, input}
-use Rattle.mps.specs.Listing.{decimal, hex, unpadded, onOff, bootAp, interruptName, line}
+use lib.ListN.{set}
+use Rattle.mps.specs.Words.{text, bit, byte, keep}
+use Rattle.mps.specs.Numbers.{le, bytes}
+use Rattle.mps.specs.Layout.{Entry, nameOf, polarity, trigger, destination, input}
+use Rattle.mps.specs.Listing.{decimal, hex, notSpace, unpadded, onOff, bootAp, interruptName, line}
 use Rattle.mps.specs.Listing.{cpuLine, busLine, ioApicLine, interruptLine, baseLine}
-use Rattle.laws.proofs.Parts.{part-inside}
+use Rattle.laws.proofs.Lists.{keep-in, keep-append}
 use Rattle.text.specs.Text.{ended}
 use Rattle.lines.specs.Wrote.{Wrote}
 use Rattle.lines.proofs.Laws.{Line, then, last, next}
@@ -62,15 +62,45 @@ module _ {t u : List ℕ} {at r : ℕ} (n : ℕ) where
 abbrev signalled : Entry → List (List ℕ)
 signalled e = decimal (trigger e) ∷ decimal (destination e) ∷ decimal (input e) ∷ []
 
+-- A byte of a name, or padding.
+no-padding : (b : ℕ) → (b ≡ 32 → ⊥) → keep notSpace (b ∷ []) ≡ b ∷ []
+unfolding keep
+no-padding b h = keep-in notSpace b [] (rw (ne-eqb b 32 h))
+
+module _ {t : List ℕ} {at b n : ℕ} (e : b ≡ n) where
+  pub letter-space : b ≡ 32 → Wrote t at (unpadded (n ∷ [])) t at
+  unfolding unpadded keep
+  letter-space h = rw (← e, h) (record { place = omega arith; text = refl })
+
+  pub letter-byte : (b ≡ 32 → ⊥) → Wrote t at (unpadded (n ∷ [])) (set t at b) (at + 1)
+  unfolding unpadded
+  letter-byte h = rw (← e, no-padding b h) (record { place = refl; text = refl })
+
+-- One byte before others.
+before :
+    {t u v : List ℕ} {at p q : ℕ} (b : ℕ) (s : List ℕ)
+    → Wrote t at (unpadded (b ∷ [])) u p → Wrote u p (unpadded s) v q → Wrote t at (unpadded (b ∷ s)) v q
+unfolding unpadded
+before b s x y = rw (keep-append notSpace (b ∷ []) s) (then x y)
+
+-- The six bytes of a bus's name.
+pub name-is :
+    {t u v w x y z : List ℕ} {at f g h i j k : ℕ} (e : ℕ)
+    → Wrote t at (unpadded (byte (bytes 8 e) 2 ∷ [])) u f → Wrote u f (unpadded (byte (bytes 8 e) 3 ∷ [])) v g
+    → Wrote v g (unpadded (byte (bytes 8 e) 4 ∷ [])) w h → Wrote w h (unpadded (byte (bytes 8 e) 5 ∷ [])) x i
+    → Wrote x i (unpadded (byte (bytes 8 e) 6 ∷ [])) y j → Wrote y j (unpadded (byte (bytes 8 e) 7 ∷ [])) z k
+    → Wrote t at (unpadded (nameOf (bytes 8 e))) z k
+unfolding bytes
+name-is e a b c d f g = before _ _ a (before _ _ b (before _ _ c (before _ _ d (before _ _ f g))))
+
 module _ (e : Entry) {t u v w : List ℕ} {at p q r : ℕ} where
   pub bus-is :
-      {from to : ℕ} → from ≡ min 2 (length e) → to ≡ min 8 (length e) → Wrote t at (ended (text "bus") 32) u p
-      → Wrote u p (ended (decimal (byte e 1)) 32) v q → Wrote v q (ended (unpadded (part from to e)) 10) w r
-      → Wrote t at (busLine e) w r
-  unfolding busLine
-  bus-is f g a b c =
-      next (text "bus") a (next (decimal (byte e 1)) b
-      (last (unpadded (part 2 8 e)) (rw (f, g, part-inside 2 8 e) at c))) .wrote
+      Wrote t at (ended (text "bus") 32) u p → Wrote u p (ended (decimal (byte e 1)) 32) v q
+      → Wrote v q (unpadded (nameOf e)) w r → Wrote t at (busLine e) (set w r 10) (r + 1)
+  unfolding busLine ended
+  bus-is a b c =
+      let end : Wrote w r (10 ∷ []) (set w r 10) (r + 1) = record { place = refl; text = refl } in
+      next (text "bus") a (next (decimal (byte e 1)) b (last (unpadded (nameOf e)) (then c end))) .wrote
 
   module _ {x y : List ℕ} {s end flags : ℕ} (f : flags ≡ byte e 3) where
     -- What a processor and an I/O APIC have in common.
@@ -129,6 +159,10 @@ module _ {t u : List ℕ} {at r : ℕ} (e : Entry) (kind : ℕ) (is : kind ≡ b
   pub cpu-first : kind ≡ 0 → Wrote t at (cpuLine e) u r → Wrote t at (baseLine e) u r
   unfolding baseLine
   cpu-first h a = rw (← is, h) a
+
+  pub bus-first : kind ≡ 1 → Wrote t at (busLine e) u r → Wrote t at (baseLine e) u r
+  unfolding baseLine
+  bus-first h a = rw (← is, h) a
 
   pub io-apic-first : kind ≡ 2 → Wrote t at (ioApicLine e) u r → Wrote t at (baseLine e) u r
   unfolding baseLine

@@ -1,17 +1,20 @@
 -- How a line comes from its words. Assumes nothing.
-use Prim.Native.Nat.{ℕ, _+_, _-_, _≤_}
-use mathlib.Core.Bool.{Bool, true}
+use Prim.Native.Nat.{ℕ, _+_, _-_, _≤_, _<_}
+use mathlib.Core.Bool.{Bool, true, false}
 use mathlib.Core.Path.{_≡_, ap, sym, _∙_}
 use mathlib.Core.List.{List, [], _∷_, _++_, append-assoc}
 use native.Mathlib.Omega.{arith}
-use lib.ListN.{length, take, drop, length-append}
+use native.Mathlib.Nat.{add-assoc}
+use lib.ListN.{length, getD, set, take, drop, length-append}
 use lib.Seq.{sets, take-append-seam}
 use lib.Dec.{leb}
-use borrow.Author.Tests.{leb-true}
-use Rattle.mps.specs.Listing.{decimal, hex, unpadded, line}
+use borrow.Author.Tests.{leb-true, le-leb, lt-leb}
+use Rattle.mps.specs.Listing.{decimal, hex, line}
+use Rattle.laws.proofs.Tests.{same-test}
 use Rattle.laws.proofs.Stores.{sets-append, sets-at-start}
-use Rattle.text.specs.Text.{ended, stored}
-use Rattle.text.proofs.Laws.{length-ended, length-decimal-most, length-hex, length-unpadded, stored-fits}
+use Rattle.slices.proofs.Laws.{sets-next}
+use Rattle.text.specs.Text.{ended}
+use Rattle.text.proofs.Laws.{length-ended, length-decimal-most, length-hex}
 use Rattle.lines.specs.Wrote.{Wrote}
 
 -- ---- One word
@@ -21,20 +24,11 @@ pub behind :
     {t w u : List ℕ} {r : ℕ} (at n : ℕ) → r ≡ length w → u ≡ sets t at w → length w ≤ n → Wrote t at w u (at + r) × (at + r ≤ at + n)
 behind at n e f h = (record { place = ap (λ (k : ℕ). at + k) e; text = f }, omega arith)
 
--- .. where it has room.
-pub behind-stored :
-    {t w u : List ℕ} {r : ℕ} (k at n : ℕ) → at + k ≤ length t → r ≡ length w → u ≡ stored k t at w → length w ≤ n
-    → Wrote t at w u (at + r) × (at + r ≤ at + n)
-behind-stored {t} {w} k at n room e f h = behind at n e (f ∙ stored-fits k t at w room) h
-
 pub decimal-short : (n end : ℕ) → length (ended (decimal n) end) ≤ 6
 decimal-short n end = omega (arith, length-ended (decimal n) end, length-decimal-most n)
 
 pub hex-short : (k n end : ℕ) → length (ended (hex k n) end) ≤ k + 1
 hex-short k n end = omega (arith, length-ended (hex k n) end, length-hex k n)
-
-pub name-short : (s : List ℕ) (end : ℕ) → length s ≤ 6 → length (ended (unpadded s) end) ≤ 16
-name-short s end h = omega (arith, length-ended (unpadded s) end, length-unpadded s, h)
 
 -- ---- Words to a line
 
@@ -63,9 +57,9 @@ next {t} {u} {x} {n} {at} {r} {q} {ws} w a b = record { wrote = rw (← joint w 
 
 -- ---- The whole line
 
--- Whether there is room for one.
-pub roomy-fits : {r : Bool} (t : List ℕ) (at : ℕ) → r ≡ leb (at + 128) (length t) → r ≡ true → at + 128 ≤ length t
-roomy-fits t at e h = leb-true (at + 128) (length t) (sym e ∙ h)
+-- Whether there is room for it.
+pub has-fits : {r : Bool} (n : ℕ) (t : List ℕ) (at : ℕ) → r ≡ leb (at + n) (length t) → r ≡ true → at + n ≤ length t
+has-fits n t at e h = leb-true (at + n) (length t) (sym e ∙ h)
 
 -- A line that was stored in the room: what the contract says of its length and of the room.
 pub direct : {t w u : List ℕ} {at r : ℕ} → Wrote t at w u r → (r - at ≡ length w) × (u ≡ sets t at w)
@@ -82,3 +76,22 @@ buffered {z} {w} {b} {u} {n} t at h a e f =
     let k : n ≡ length w = omega (arith, a .place) in
     let g : take n b ≡ w = rw (k, a .text) (buffer-holds z w (omega arith)) in
     (e ∙ k, f ∙ ap (sets t at) g)
+
+-- ---- Whether n bytes have room
+
+-- Whether it has, from the room's length less n.
+pub has-room : (at n l : ℕ) → n ≤ l → leb at (l - n) ≡ leb (at + n) l
+has-room at n l h =
+    same-test (leb at (l - n)) (leb (at + n) l)
+    (λ e. let k = leb-true at (l - n) e in le-leb (at + n) l (omega arith))
+    (λ e. let k = leb-true (at + n) l e in le-leb at (l - n) (omega arith))
+
+pub has-none : (at n l : ℕ) → l < n → false ≡ leb (at + n) l
+has-none at n l h = sym (lt-leb (at + n) l (omega arith))
+
+-- ---- Words, from byte i on
+
+pub word-next :
+    (t w : List ℕ) (at i : ℕ) → i < length w
+    → sets t (at + i) (drop i w) ≡ sets (set t (at + i) (getD w i 0)) (at + (i + 1)) (drop (i + 1) w)
+word-next t w at i h = rw (← add-assoc at i 1) (sets-next t w (at + i) i h)

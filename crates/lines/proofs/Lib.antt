@@ -1,4 +1,5 @@
 pub mod Laws
+pub mod Digits
 pub mod FrameLines
 pub mod ExtendedLines
 pub mod BaseLines

@@ -1,7 +1,7 @@
 -- An entry as a number: its first 8 bytes, and the lines that they tell. Assumes nothing.
 use Prim.Native.Nat.{ℕ, zero, suc, _+_, _*_, _/_, _%_, _^_, _≤_, _<_}
-use mathlib.Core.Path.{_≡_, refl, sym, _∙_}
-use mathlib.Core.List.{List}
+use mathlib.Core.Path.{_≡_, refl, ap, sym, _∙_}
+use mathlib.Core.List.{List, _∷_}
 use native.Mathlib.Omega.{arith}
 use native.Mathlib.Nat.{zero-add, add-zero, pow-zero, div-one, div-div-eq-div-mul}
 use lib.Pow.{pow-add}
@@ -9,10 +9,10 @@ use lib.ListN.{getD}
 use borrow.Author.Tests.{ne-eqb}
 use Rattle.mps.specs.Numbers.{le, bytes}
 use Rattle.mps.specs.Layout.{Entry}
-use Rattle.mps.specs.Listing.{cpuLine, busLine, ioApicLine, interruptLine, baseLine, mapLine, treeLine, modLine, skipLine, extendedLine}
+use Rattle.mps.specs.Listing.{baseLine, mapLine, treeLine, modLine, skipLine, extendedLine}
 use Rattle.numbers.proofs.Laws.{le-eight, le-below, le-bytes, bytes-below}
 use Rattle.lines.specs.Wrote.{spaceLine}
-use Rattle.lines.specs.Entry.{entryLine}
+use Rattle.lines.specs.Entry.{entryLine, eight, shown}
 
 -- ---- The bytes of a number
 
@@ -47,8 +47,10 @@ module _ (a e : Entry) (same : (k : ℕ) → k < 8 → getD a k 0 ≡ getD e k 0
   number-le zero at h = refl
   number-le (suc n) at h = rw (same at (omega arith), number-le n (at + 1) (omega arith))
 
--- So where the 8 bytes of a number are an entry's, its line is the entry's, but that of a bus, whose name may be cut short,
--- and that of a mapping, which is longer.
+cons : {x y : ℕ} {s t : List ℕ} → x ≡ y → s ≡ t → x ∷ s ≡ y ∷ t
+cons e f = rw (e, f)
+
+-- So the line that the 8 bytes of a number tell is the entry's, but that of a mapping, which has more.
 module _ (e : Entry) (x : ℕ) (is : x ≡ le 8 e 0) (b : (i : ℕ) → getD e i 0 < 256) where
   number : (k : ℕ) → k < 8 → getD (bytes 8 x) k 0 ≡ getD e k 0
   number k h = rw is (rw zero-add at (number-byte 8 e 0 k b h))
@@ -56,21 +58,11 @@ module _ (e : Entry) (x : ℕ) (is : x ≡ le 8 e 0) (b : (i : ℕ) → getD e i
   number-type : getD (bytes 8 x) 0 0 ≡ getD e 0 0
   number-type = number 0 (omega arith)
 
-  base-line-is : (getD (bytes 8 x) 0 0 ≡ 1 → ⊥) → baseLine (bytes 8 x) ≡ baseLine e
-  unfolding baseLine cpuLine ioApicLine interruptLine
-  base-line-is h =
-      rw (
-        number 0 (omega arith),
-        number 1 (omega arith),
-        number 2 (omega arith),
-        number 3 (omega arith),
-        number 4 (omega arith),
-        number 5 (omega arith),
-        number 6 (omega arith),
-        number 7 (omega arith),
-        number-le (bytes 8 x) e number 4 4 (omega arith),
-        ne-eqb (getD e 0 0) 1 (λ q. h (number-type ∙ q)),
-      )
+  eight-is : bytes 8 x ≡ eight e
+  unfolding bytes eight
+  eight-is =
+      cons (number 0 (omega arith)) (cons (number 1 (omega arith)) (cons (number 2 (omega arith)) (cons (number 3 (omega arith))
+      (cons (number 4 (omega arith)) (cons (number 5 (omega arith)) (cons (number 6 (omega arith)) (cons (number 7 (omega arith)) refl)))))))
 
   extended-line-is : (getD (bytes 8 x) 0 0 ≡ 128 → ⊥) → extendedLine (bytes 8 x) ≡ extendedLine e
   unfolding extendedLine treeLine modLine skipLine
@@ -85,14 +77,10 @@ module _ (e : Entry) (x : ℕ) (is : x ≡ le 8 e 0) (b : (i : ℕ) → getD e i
         ne-eqb (getD e 0 0) 128 (λ q. h (number-type ∙ q)),
       )
 
-  pub entry-line-is : (getD (bytes 8 x) 0 0 ≡ 1 → ⊥) → (getD (bytes 8 x) 0 0 ≡ 128 → ⊥) → entryLine (bytes 8 x) ≡ entryLine e
-  unfolding entryLine
-  entry-line-is h k = rw (number-type, base-line-is h, extended-line-is k)
+  pub entry-line-is : (getD (bytes 8 x) 0 0 ≡ 128 → ⊥) → entryLine (bytes 8 x) ≡ shown e
+  unfolding entryLine shown
+  entry-line-is k = rw (number-type, ap baseLine eight-is, extended-line-is k)
 
-  pub bus-line-is : getD (bytes 8 x) 0 0 ≡ 1 → busLine e ≡ entryLine e
-  unfolding entryLine baseLine
-  bus-line-is h = rw (sym number-type ∙ h)
-
-  pub map-line-is : {base size : ℕ} → getD (bytes 8 x) 0 0 ≡ 128 → base ≡ le 8 e 4 → size ≡ le 8 e 12 → spaceLine (bytes 8 x) base size ≡ entryLine e
-  unfolding entryLine extendedLine mapLine spaceLine
+  pub map-line-is : {base size : ℕ} → getD (bytes 8 x) 0 0 ≡ 128 → base ≡ le 8 e 4 → size ≡ le 8 e 12 → spaceLine (bytes 8 x) base size ≡ shown e
+  unfolding shown extendedLine mapLine spaceLine
   map-line-is h p q = rw (sym number-type ∙ h, number 2 (omega arith), number 3 (omega arith), p, q)

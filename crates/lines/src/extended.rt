@@ -1,11 +1,12 @@
 // The lines of extended entries: map, tree, mod and skip.
+use super::LINE;
 use super::byte;
 use super::decimal;
 use super::field;
+use super::has;
 use super::hex16;
 use super::high;
 use super::moved;
-use super::roomy;
 use super::word;
 use mps::layout;
 use text::LINE_END;
@@ -24,10 +25,10 @@ pub(super) fn map_line(out: &mut [u8], at: usize, e: u64, base: u64, size: u64) 
     ensures { λ r. ⌜ r ≡ length (spaceLine (bytes 8 e) base size) ⌝ }
     ensures { λ _. ⌜ now (out .exit) ≡ sets (now (out .entry)) at (spaceLine (bytes 8 e) base size) ⌝ }
 {
-    if roomy(out, at) {
+    if has(out, at, LINE) {
         return map(out, at, e, base, size) - at;
     }
-    let mut buffer: [u8; 128] = [0; 128];
+    let mut buffer: [u8; 64] = [0; 64];
     let n = map(&mut buffer, 0, e, base, size);
     moved(out, at, &buffer, n)
 }
@@ -35,9 +36,9 @@ pub(super) fn map_line(out: &mut [u8], at: usize, e: u64, base: u64, size: u64) 
 // Each of these stores one line and answers the place behind it.
 
 fn map(out: &mut [u8], at: usize, e: u64, base: u64, size: u64) -> usize
-    requires { ⌜ at + 128 ≤ length (now out) ⌝ }
+    requires { ⌜ at + 64 ≤ length (now out) ⌝ }
     ensures { λ r. ⌜ Wrote (now (out .entry)) at (spaceLine (bytes 8 e) base size) (now (out .exit)) r ⌝ }
-    ensures { λ r. ⌜ r ≤ at + 128 ⌝ }
+    ensures { λ r. ⌜ r ≤ at + 64 ⌝ }
 {
     let a = word(out, at, b"map ");
     let b = field(out, a, e, layout::EXTENDED_BUS, SPACE);
@@ -48,9 +49,9 @@ fn map(out: &mut [u8], at: usize, e: u64, base: u64, size: u64) -> usize
 
 // An entry of another type.
 pub(super) fn entry(out: &mut [u8], at: usize, e: u64) -> usize
-    requires { ⌜ (at + 128 ≤ length (now out)) × (byteOf (bytes 8 e) 0 ≡ 128 → ⊥) ⌝ }
+    requires { ⌜ (at + 64 ≤ length (now out)) × (byteOf (bytes 8 e) 0 ≡ 128 → ⊥) ⌝ }
     ensures { λ r. ⌜ Wrote (now (out .entry)) at (extendedLine (bytes 8 e)) (now (out .exit)) r ⌝ }
-    ensures { λ r. ⌜ r ≤ at + 128 ⌝ }
+    ensures { λ r. ⌜ r ≤ at + 64 ⌝ }
 {
     let kind = byte(e, 0);
     if kind == layout::HIERARCHY_TYPE {
@@ -63,9 +64,9 @@ pub(super) fn entry(out: &mut [u8], at: usize, e: u64) -> usize
 }
 
 fn tree(out: &mut [u8], at: usize, e: u64) -> usize
-    requires { ⌜ at + 128 ≤ length (now out) ⌝ }
+    requires { ⌜ at + 64 ≤ length (now out) ⌝ }
     ensures { λ r. ⌜ Wrote (now (out .entry)) at (treeLine (bytes 8 e)) (now (out .exit)) r ⌝ }
-    ensures { λ r. ⌜ r ≤ at + 128 ⌝ }
+    ensures { λ r. ⌜ r ≤ at + 64 ⌝ }
 {
     let link = byte(e, layout::LINK_BIT);
     let a = word(out, at, b"tree ");
@@ -75,9 +76,9 @@ fn tree(out: &mut [u8], at: usize, e: u64) -> usize
 }
 
 fn modifier(out: &mut [u8], at: usize, e: u64) -> usize
-    requires { ⌜ at + 128 ≤ length (now out) ⌝ }
+    requires { ⌜ at + 64 ≤ length (now out) ⌝ }
     ensures { λ r. ⌜ Wrote (now (out .entry)) at (modLine (bytes 8 e)) (now (out .exit)) r ⌝ }
-    ensures { λ r. ⌜ r ≤ at + 128 ⌝ }
+    ensures { λ r. ⌜ r ≤ at + 64 ⌝ }
 {
     let link = byte(e, layout::LINK_BIT);
     let a = word(out, at, b"mod ");
@@ -87,9 +88,9 @@ fn modifier(out: &mut [u8], at: usize, e: u64) -> usize
 }
 
 fn skip(out: &mut [u8], at: usize, e: u64) -> usize
-    requires { ⌜ at + 128 ≤ length (now out) ⌝ }
+    requires { ⌜ at + 64 ≤ length (now out) ⌝ }
     ensures { λ r. ⌜ Wrote (now (out .entry)) at (skipLine (bytes 8 e)) (now (out .exit)) r ⌝ }
-    ensures { λ r. ⌜ r ≤ at + 128 ⌝ }
+    ensures { λ r. ⌜ r ≤ at + 64 ⌝ }
 {
     let a = word(out, at, b"skip ");
     let b = field(out, a, e, 0, SPACE);

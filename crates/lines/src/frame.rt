@@ -1,8 +1,10 @@
 // The lines around the entries: pointer, table and end; and those that stand alone: default and refused.
+use super::LINE;
 use super::decimal;
+use super::has;
 use super::hex8;
 use super::moved;
-use super::roomy;
+use super::put_word;
 use super::word;
 use text::LINE_END;
 use text::SPACE;
@@ -17,18 +19,18 @@ pub fn pointer(out: &mut [u8], at: usize, address: u32, imcr: u8) -> usize
     ensures { λ r. ⌜ r ≡ length (pointerLine address imcr) ⌝ }
     ensures { λ _. ⌜ now (out .exit) ≡ sets (now (out .entry)) at (pointerLine address imcr) ⌝ }
 {
-    if roomy(out, at) {
+    if has(out, at, LINE) {
         return put_pointer(out, at, address, imcr) - at;
     }
-    let mut buffer: [u8; 128] = [0; 128];
+    let mut buffer: [u8; 64] = [0; 64];
     let n = put_pointer(&mut buffer, 0, address, imcr);
     moved(out, at, &buffer, n)
 }
 
 fn put_pointer(out: &mut [u8], at: usize, address: u32, imcr: u8) -> usize
-    requires { ⌜ at + 128 ≤ length (now out) ⌝ }
+    requires { ⌜ at + 64 ≤ length (now out) ⌝ }
     ensures { λ r. ⌜ Wrote (now (out .entry)) at (pointerLine address imcr) (now (out .exit)) r ⌝ }
-    ensures { λ r. ⌜ r ≤ at + 128 ⌝ }
+    ensures { λ r. ⌜ r ≤ at + 64 ⌝ }
 {
     let a = word(out, at, b"pointer ");
     let b = hex8(out, a, address, SPACE);
@@ -40,18 +42,18 @@ pub fn table(out: &mut [u8], at: usize, address: u32, base: u16, extended: u16, 
     ensures { λ r. ⌜ r ≡ length (tableLine address base extended count) ⌝ }
     ensures { λ _. ⌜ now (out .exit) ≡ sets (now (out .entry)) at (tableLine address base extended count) ⌝ }
 {
-    if roomy(out, at) {
+    if has(out, at, LINE) {
         return put_table(out, at, address, base, extended, count) - at;
     }
-    let mut buffer: [u8; 128] = [0; 128];
+    let mut buffer: [u8; 64] = [0; 64];
     let n = put_table(&mut buffer, 0, address, base, extended, count);
     moved(out, at, &buffer, n)
 }
 
 fn put_table(out: &mut [u8], at: usize, address: u32, base: u16, extended: u16, count: u16) -> usize
-    requires { ⌜ at + 128 ≤ length (now out) ⌝ }
+    requires { ⌜ at + 64 ≤ length (now out) ⌝ }
     ensures { λ r. ⌜ Wrote (now (out .entry)) at (tableLine address base extended count) (now (out .exit)) r ⌝ }
-    ensures { λ r. ⌜ r ≤ at + 128 ⌝ }
+    ensures { λ r. ⌜ r ≤ at + 64 ⌝ }
 {
     let a = word(out, at, b"table ");
     let b = hex8(out, a, address, SPACE);
@@ -60,10 +62,15 @@ fn put_table(out: &mut [u8], at: usize, address: u32, base: u16, extended: u16, 
     decimal(out, d, count as u32, LINE_END)
 }
 
+// It is the last line, and a room that just fits has its four bytes and no more.
 pub fn end(out: &mut [u8], at: usize) -> usize
     ensures { λ r. ⌜ r ≡ length endLine ⌝ }
     ensures { λ _. ⌜ now (out .exit) ≡ sets (now (out .entry)) at endLine ⌝ }
 {
+    if has(out, at, 4) {
+        put_word(out, at, b"end\n");
+        return 4;
+    }
     slices::copy(out, at, b"end\n");
     4
 }
@@ -74,15 +81,15 @@ pub fn default(out: &mut [u8], at: usize, number: u8, imcr: u8) -> usize
     ensures { λ r. ⌜ r ≡ length (defaultLine number imcr) ⌝ }
     ensures { λ _. ⌜ now (out .exit) ≡ sets (now (out .entry)) at (defaultLine number imcr) ⌝ }
 {
-    let mut buffer: [u8; 128] = [0; 128];
+    let mut buffer: [u8; 64] = [0; 64];
     let n = put_default(&mut buffer, 0, number, imcr);
     moved(out, at, &buffer, n)
 }
 
 fn put_default(out: &mut [u8], at: usize, number: u8, imcr: u8) -> usize
-    requires { ⌜ at + 128 ≤ length (now out) ⌝ }
+    requires { ⌜ at + 64 ≤ length (now out) ⌝ }
     ensures { λ r. ⌜ Wrote (now (out .entry)) at (defaultLine number imcr) (now (out .exit)) r ⌝ }
-    ensures { λ r. ⌜ r ≤ at + 128 ⌝ }
+    ensures { λ r. ⌜ r ≤ at + 64 ⌝ }
 {
     let a = word(out, at, b"default ");
     let b = decimal(out, a, number as u32, SPACE);
@@ -94,15 +101,15 @@ pub fn refused(out: &mut [u8], at: usize, number: u8) -> usize
     ensures { λ r. ⌜ r ≡ length (refusedLine number) ⌝ }
     ensures { λ _. ⌜ now (out .exit) ≡ sets (now (out .entry)) at (refusedLine number) ⌝ }
 {
-    let mut buffer: [u8; 128] = [0; 128];
+    let mut buffer: [u8; 64] = [0; 64];
     let n = put_refused(&mut buffer, 0, number);
     moved(out, at, &buffer, n)
 }
 
 fn put_refused(out: &mut [u8], at: usize, number: u8) -> usize
-    requires { ⌜ at + 128 ≤ length (now out) ⌝ }
+    requires { ⌜ at + 64 ≤ length (now out) ⌝ }
     ensures { λ r. ⌜ Wrote (now (out .entry)) at (refusedLine number) (now (out .exit)) r ⌝ }
-    ensures { λ r. ⌜ r ≤ at + 128 ⌝ }
+    ensures { λ r. ⌜ r ≤ at + 64 ⌝ }
 {
     let a = word(out, at, b"refused ");
     decimal(out, a, number as u32, LINE_END)

@@ -10,9 +10,11 @@ use mps::Held;
 use mps::Lent;
 use mps::layout;
 ghost use mathlib.Core.Path.{_≡_};
-ghost use Prim.Native.Nat.{ℕ, _≤_};
+ghost use Prim.Native.Nat.{ℕ, _≤_, _<_};
 ghost use lib.ListN.{length};
 ghost use lib.Seq.{sets};
+ghost use Rattle.mps.specs.Layout.{headerSize, baseLength, extendedEnd};
+ghost use Rattle.mps.specs.Reader.{nextPlace};
 ghost use Rattle.mps.specs.Judge.{tableRefusal};
 ghost use Rattle.mps.specs.Listing.{listed, listLeft, printed, printLeft, defaultLine, refusedLine};
 ghost use Rattle.lines.specs.Wrote.{Wrote};
@@ -23,23 +25,39 @@ ghost use Rattle.listing.specs.Texts.{tableText, frameLength, entriesTex
 // "answer longer than the lent room"
 const TOO_LONG: u8 = 19;
 
-// The lines of all entries, from a place of the room on; answers the place behind them. Behind the last entry the reader's
-// place stays. `after` stands at the top of the turn: inlined there, its branch on the type also fixes the length for the
-// line's code. The bound on the room's place keeps sums below 2^64; a larger one would do as well.
+// The place behind an entry that stands at a place of an accepted table: what the reader would answer there. The base's end is
+// handed in, since the header would be read anew behind every store into the room.
+fn after(t: &[u8], place: usize, base: usize) -> usize
+    requires { ⌜ (tableRefusal (now t) ≡ 0) × (headerSize ≤ place) × (place < extendedEnd (now t)) ⌝ }
+    requires { ⌜ (place < nextPlace (now t) place) × (base ≡ baseLength (now t)) ⌝ }
+    ensures { λ r. ⌜ r ≡ nextPlace (now (t .entry)) place ⌝ }
+{
+    if place < base {
+        if t[place] == layout::PROCESSOR_TYPE {
+            return place + layout::PROCESSOR_SIZE;
+        }
+        return place + layout::ENTRY_SIZE;
+    }
+    place + t[place + layout::ENTRY_LENGTH] as usize
+}
+
+// The lines of all entries, from a place of the room on; answers the place behind them. `after` stands at the top of the
+// turn: inlined there, its branch on the type also fixes the length for the line's code. The bound on the room's place keeps
+// sums below 2^64; a larger one would do as well.
 fn put_entries(out: &mut [u8], at: usize, t: &[u8]) -> usize
     requires { ⌜ (tableRefusal (now t) ≡ 0) × (at ≤ 1000) ⌝ }
     ensures { λ r. ⌜ Wrote (now (out .entry)) at (entriesText (now (t .entry))) (now (out .exit)) r ⌝ }
 {
+    let base = lengths::base(t) as usize;
+    let end = base + lengths::extended(t) as usize;
     let mut put = at;
     let mut place = layout::HEADER_SIZE;
-    loop {
-        let next = reader::after(t, place);
-        if next <= place {
-            return put;
-        }
+    while place < end {
+        let next = after(t, place, base);
         put += lines::entry::line(out, put, &t[place..next]);
         place = next;
     }
+    put
 }
 
 // The whole listing of an accepted table, from the first byte of the room.
@@ -72,16 +90,16 @@ fn entries_width(t: &[u8]) -> usize
     requires { ⌜ tableRefusal (now t) ≡ 0 ⌝ }
     ensures { λ r. ⌜ r ≡ length (entriesText (now (t .entry))) ⌝ }
 {
+    let base = lengths::base(t) as usize;
+    let end = base + lengths::extended(t) as usize;
     let mut sum = 0;
     let mut place = layout::HEADER_SIZE;
-    loop {
-        let next = reader::after(t, place);
-        if next <= place {
-            return sum;
-        }
+    while place < end {
+        let next = after(t, place, base);
         sum += line_width(&t[place..next]);
         place = next;
     }
+    sum
 }
 
 // How many bytes the lines around the entries have: "pointer", "imcr", "table", "end", twice eight digits, and ten bytes

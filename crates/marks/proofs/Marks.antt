@@ -1,7 +1,7 @@
 -- That the marks of the buses say what mps's `says` says. Assumes nothing.
 use Prim.Native.Nat.{ℕ, _≤_, _<_, max}
 use mathlib.Core.Path.{_≡_, refl, ap, sym, _∙_}
-use mathlib.Core.Bool.{Bool, true, false, cond, _||_, _&&_, and-false}
+use mathlib.Core.Bool.{Bool, true, false, cond, not, _||_, _&&_, and-false, or-false}
 use mathlib.Core.List.{List, [], _∷_}
 use native.Mathlib.Omega.{arith}
 use lib.ListN.{length, set, length-set, length-replicate}
@@ -9,12 +9,13 @@ use lib.Seq.{getD-set-same, getD-set-other}
 use lib.Dec.{eqb}
 use borrow.Author.Tests.{eqb-true, eqb-false, eq-eqb}
 use Rattle.mps.specs.Words.{byte, keep, any}
-use Rattle.mps.specs.Layout.{Entry, ofType, mappingType, hierarchyType, modifierType, extendedBus}
+use Rattle.mps.specs.Ranges.{inList}
+use Rattle.mps.specs.Layout.{Entry, type, ofType, mappingType, hierarchyType, modifierType, extendedBus, subtractiveBit, takesBit, rangeList}
 use Rattle.mps.specs.Rules.{onBus, links}
 use Rattle.mps.specs.Addresses.{covers, touches, takesAway, adds, coversOrAdds, hasEntry, subtractive, Say, says}
 use Rattle.laws.proofs.Tests.{whether, or-parts}
 use Rattle.laws.proofs.Lists.{any-keep, keep-in, keep-out}
-use Rattle.marks.specs.Marks.{rank, meaning, highest, marked, nothing}
+use Rattle.marks.specs.Marks.{mappingRank, linkRank, modifierRank, meaning, marked, allMarked, nothing}
 
 -- ---- Marks
 
@@ -47,6 +48,17 @@ level-none : 0 ≡ level false false false false
 unfolding level
 level-none = refl
 
+-- The highest that entries say of a bus.
+highest : (Entry → ℕ) → ℕ → List Entry → ℕ
+highest rank bus [] = 0
+highest rank bus (e ∷ es) = max (cond (onBus bus e) (rank e) 0) (highest rank bus es)
+
+-- What one entry says of its own bus, of whatever type it is.
+rankOf : ℕ → ℕ → Entry → ℕ
+rankOf kind address e =
+    let bus = extendedBus e in
+    level (takesAway bus kind address e) (coversOrAdds bus kind address e) (ofType hierarchyType e && subtractiveBit e) (hasEntry bus e)
+
 module _ (bus kind address : ℕ) where
   -- Whether an entry is the bus's link and has the bit.
   linked : Entry → Bool
@@ -54,15 +66,15 @@ module _ (bus kind address : ℕ) where
 
   -- What one entry says of the bus,
   said : Entry → ℕ
-  said e = cond (onBus bus e) (rank kind address e) 0
+  said e = cond (onBus bus e) (rankOf kind address e) 0
 
   level-said : (e : Entry) → said e ≡ level (takesAway bus kind address e) (coversOrAdds bus kind address e) (linked e) (hasEntry bus e)
-  unfolding said level linked rank takesAway coversOrAdds covers adds touches hasEntry subtractive
+  unfolding said level linked rankOf takesAway coversOrAdds covers adds touches hasEntry subtractive
   level-said e = whether (onBus bus e) (λ o. rw (eqb-true (extendedBus e) bus o, eq-eqb bus bus refl)) (λ o. simp (o, and-false))
 
   -- and what many say.
   level-highest : (es : List Entry)
-      → highest bus kind address es
+      → highest (rankOf kind address) bus es
       ≡ level (any (takesAway bus kind address) es) (any (coversOrAdds bus kind address) es) (any linked es) (any (hasEntry bus) es)
   unfolding highest any said
   level-highest [] = level-none
@@ -78,7 +90,7 @@ meaning-level false false false true = refl
 meaning-level false false false false = refl
 
 -- What a bus says is what its highest entry says.
-pub says-highest : (es : List Entry) (bus kind address : ℕ) → meaning (highest bus kind address es) ≡ says es bus kind address
+says-highest : (es : List Entry) (bus kind address : ℕ) → meaning (highest (rankOf kind address) bus es) ≡ says es bus kind address
 unfolding says links linked
 says-highest es bus kind address =
     rw (any-keep (subtractive bus) (ofType hierarchyType) es, level-highest bus kind address es)
@@ -87,14 +99,37 @@ says-highest es bus kind address =
 
 -- ---- Marks by types
 
+-- A modifier that touches takes away or adds.
+touching : (w b : Bool) → cond {A = ℕ} w (cond b 4 3) 1 ≡ cond (w && b) 4 (cond (w && not b) 3 1)
+touching true true = refl
+touching true false = refl
+touching false b = refl
+
+-- An entry of a type says what the entries of that type say.
+module _ (kind address : ℕ) (e : Entry) where
+  own-bus : eqb (extendedBus e) (extendedBus e) ≡ true
+  own-bus = eq-eqb (extendedBus e) (extendedBus e) refl
+
+  mapping-says : ofType mappingType e ≡ true → mappingRank kind address e ≡ rankOf kind address e
+  unfolding mappingRank rankOf level takesAway coversOrAdds covers touches adds hasEntry
+  mapping-says t = simp (eqb-true (type e) mappingType t, own-bus, or-false)
+
+  link-says : ofType hierarchyType e ≡ true → linkRank e ≡ rankOf kind address e
+  unfolding linkRank rankOf level takesAway coversOrAdds covers touches adds hasEntry
+  link-says t = rw (eqb-true (type e) hierarchyType t)
+
+  modifier-says : ofType modifierType e ≡ true → modifierRank kind address e ≡ rankOf kind address e
+  unfolding modifierRank rankOf level takesAway coversOrAdds covers touches adds hasEntry
+  modifier-says t = rw (eqb-true (type e) modifierType t, own-bus) (touching (eqb kind 0 && inList (rangeList e) address) (takesBit e))
+
 module _ (bus kind address : ℕ) where
-  highest-keep : (q : Entry → Bool) (e : Entry) (xs : List Entry)
-      → highest bus kind address (keep q (e ∷ xs)) ≡ max (cond (q e) (said bus kind address e) 0) (highest bus kind address (keep q xs))
+  highest-keep : (rank : Entry → ℕ) (q : Entry → Bool) (e : Entry) (xs : List Entry) → (q e ≡ true → rank e ≡ rankOf kind address e)
+      → highest rank bus (keep q (e ∷ xs)) ≡ max (cond (q e) (said bus kind address e) 0) (highest rank bus (keep q xs))
   unfolding highest said
-  highest-keep q e xs = whether (q e) (λ t. rw (keep-in q e xs t, t)) (λ f. rw (keep-out q e xs f, f) (omega arith))
+  highest-keep rank q e xs s = whether (q e) (λ t. rw (keep-in q e xs t, t, s t)) (λ f. rw (keep-out q e xs f, f) (omega arith))
 
   said-none : (e : Entry) → (ofType mappingType e || ofType hierarchyType e || ofType modifierType e) ≡ false → said bus kind address e ≡ 0
-  unfolding said rank takesAway coversOrAdds covers adds touches hasEntry
+  unfolding said rankOf level takesAway coversOrAdds covers adds touches hasEntry
   said-none e n =
       let p = or-parts (ofType mappingType e || ofType hierarchyType e) (ofType modifierType e) n in
       let q = or-parts (ofType mappingType e) (ofType hierarchyType e) (p .0) in
@@ -114,17 +149,17 @@ max-spread : (h a b c x y z : ℕ) → h ≡ max (max a b) c → max h (max (max
 max-spread h a b c x y z q = rw (q, max-four a x b y, max-four (max a b) (max x y) c z)
 
 -- Only entries of the three types say anything.
-pub highest-types : (bus kind address : ℕ) (xs : List Entry)
-    → highest bus kind address xs
-    ≡ max (max (highest bus kind address (keep (ofType mappingType) xs)) (highest bus kind address (keep (ofType hierarchyType) xs)))
-    (highest bus kind address (keep (ofType modifierType) xs))
+highest-types : (bus kind address : ℕ) (xs : List Entry)
+    → highest (rankOf kind address) bus xs
+    ≡ max (max (highest (mappingRank kind address) bus (keep (ofType mappingType) xs)) (highest linkRank bus (keep (ofType hierarchyType) xs)))
+    (highest (modifierRank kind address) bus (keep (ofType modifierType) xs))
 unfolding highest keep said
 highest-types bus kind address [] = refl
 highest-types bus kind address (e ∷ xs) =
     rw (
-      highest-keep bus kind address (ofType mappingType) e xs,
-      highest-keep bus kind address (ofType hierarchyType) e xs,
-      highest-keep bus kind address (ofType modifierType) e xs,
+      highest-keep bus kind address (mappingRank kind address) (ofType mappingType) e xs (mapping-says kind address e),
+      highest-keep bus kind address linkRank (ofType hierarchyType) e xs (link-says kind address e),
+      highest-keep bus kind address (modifierRank kind address) (ofType modifierType) e xs (modifier-says kind address e),
       highest-types bus kind address xs,
     )
     (max-spread (said bus kind address e) _ _ _ _ _ _
@@ -141,37 +176,41 @@ mark-set marks b r bus h =
     (λ o. rw o (getD-set-other marks b bus (max (byte marks b) r) 0 (λ q. eqb-false b bus o (sym q)) ∙ omega arith))
 
 -- The list of marks has the highest of what stood there and what the entries say.
-pub marked-byte : (kind address : ℕ) (marks : List ℕ) (es : List Entry) (bus : ℕ) → bus < length marks
-    → byte (marked kind address marks es) bus ≡ max (byte marks bus) (highest bus kind address es)
+marked-byte : (rank : Entry → ℕ) (marks : List ℕ) (es : List Entry) (bus : ℕ) → bus < length marks
+    → byte (marked rank marks es) bus ≡ max (byte marks bus) (highest rank bus es)
 unfolding marked highest
-marked-byte kind address marks [] bus h = omega arith
-marked-byte kind address marks (e ∷ es) bus h =
-    marked-byte kind address (set marks (extendedBus e) (max (byte marks (extendedBus e)) (rank kind address e))) es bus (rw length-set h)
-    ∙ rw (mark-set marks (extendedBus e) (rank kind address e) bus h) (omega arith)
+marked-byte rank marks [] bus h = omega arith
+marked-byte rank marks (e ∷ es) bus h =
+    marked-byte rank (set marks (extendedBus e) (max (byte marks (extendedBus e)) (rank e))) es bus (rw length-set h)
+    ∙ rw (mark-set marks (extendedBus e) (rank e) bus h) (omega arith)
 
-pub length-marked : (kind address : ℕ) (marks : List ℕ) (es : List Entry) → length (marked kind address marks es) ≡ length marks
+length-marked : (rank : Entry → ℕ) (marks : List ℕ) (es : List Entry) → length (marked rank marks es) ≡ length marks
 unfolding marked
-length-marked kind address marks [] = refl
-length-marked kind address marks (e ∷ es) = length-marked kind address _ es ∙ length-set marks (extendedBus e) _
+length-marked rank marks [] = refl
+length-marked rank marks (e ∷ es) = length-marked rank _ es ∙ length-set marks (extendedBus e) _
 
--- The marks of all three types, where nothing was marked.
-pub marked-types : (kind address : ℕ) (marks : List ℕ) (xs : List Entry) (bus : ℕ) → bus < length marks → byte marks bus ≡ 0
-    → byte (marked kind address (marked kind address (marked kind address marks (keep (ofType mappingType) xs)) (keep (ofType hierarchyType) xs)) (keep (ofType modifierType) xs)) bus
-    ≡ highest bus kind address xs
-marked-types kind address marks xs bus h z =
+max-none : (n : ℕ) → max 0 n ≡ n
+max-none n = omega arith
+
+-- The marks of all three types, where nothing was marked, mean what the bus says.
+pub marked-says : (kind address : ℕ) (marks : List ℕ) (xs : List Entry) (bus : ℕ) → bus < length marks → byte marks bus ≡ 0
+    → meaning (byte (allMarked kind address marks (keep (ofType mappingType) xs) (keep (ofType hierarchyType) xs) (keep (ofType modifierType) xs)) bus)
+    ≡ says xs bus kind address
+marked-says kind address marks xs bus h z =
     let maps = keep (ofType mappingType) xs in
     let ls = keep (ofType hierarchyType) xs in
-    let mapped = marked kind address marks maps in
-    let linked = marked kind address mapped ls in
-    let m = length-marked kind address marks maps in
-    let l = length-marked kind address mapped ls in
+    let mapped = marked (mappingRank kind address) marks maps in
+    let linked = marked linkRank mapped ls in
+    let m = length-marked (mappingRank kind address) marks maps in
+    let l = length-marked linkRank mapped ls in
     rw (
-      marked-byte kind address linked (keep (ofType modifierType) xs) bus (omega (arith, h, m, l)),
-      marked-byte kind address mapped ls bus (omega (arith, h, m)),
-      marked-byte kind address marks maps bus h,
+      marked-byte (modifierRank kind address) linked (keep (ofType modifierType) xs) bus (omega (arith, h, m, l)),
+      marked-byte linkRank mapped ls bus (omega (arith, h, m)),
+      marked-byte (mappingRank kind address) marks maps bus h,
       z,
-      highest-types bus kind address xs,
-    ) (omega arith)
+      max-none,
+      ← highest-types bus kind address xs,
+    ) (says-highest xs bus kind address)
 
 pub length-nothing : length nothing ≡ 256
 length-nothing = length-replicate {A = ℕ} 256 0

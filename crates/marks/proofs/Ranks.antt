@@ -1,5 +1,5 @@
 -- What the code gathers, entry by entry: the lists that an address lies in, what an entry says of its bus, and the steps
--- of the loops that put it to the buses. Assumes nothing.
+-- of the loops that put it, and the parents, to the buses. Assumes nothing.
 use Prim.Native.Nat.{ℕ, _+_, _-_, _*_, _/_, _%_, _≤_, _<_, max}
 use mathlib.Core.Path.{_≡_, refl, sym, _∙_}
 use mathlib.Core.Bool.{Bool, true, false, cond, _||_, _&&_}
@@ -11,11 +11,10 @@ use lib.Dec.{eqb, ltb}
 use borrow.Author.Tests.{lt-ltb, le-ltb, le-leb, lt-leb, eq-eqb, ne-eqb}
 use Rattle.mps.specs.Words.{bit, flag, part}
 use Rattle.mps.specs.Ranges.{isa, vga, rangesAt, inList}
-use Rattle.mps.specs.Layout.{Entry, type, mappingType, hierarchyType, modifierType, modifiedBelow, extendedBus, spaceKind, spaceBase, spaceLength, rangeList}
+use Rattle.mps.specs.Layout.{Entry, modifiedBelow, extendedBus, spaceKind, spaceBase, spaceLength, rangeList}
 use Rattle.mps.specs.Sections.{rows}
-use Rattle.mps.specs.Addresses.{covers, touches, takesAway, adds, coversOrAdds, hasEntry}
 use Rattle.laws.proofs.Rows.{rows-done, rows-next, row-byte}
-use Rattle.marks.specs.Marks.{rank, marked, listsAt}
+use Rattle.marks.specs.Marks.{mappingRank, linkRank, modifierRank, marked, parented, listsAt}
 
 -- ---- The lists that an address lies in
 
@@ -76,93 +75,86 @@ module _ (lists list kind address : ℕ) (is : lists ≡ listsAt kind address) w
 -- ---- What an entry says of its own bus
 
 module _ (e : Entry) where
-  own-bus : eqb (extendedBus e) (extendedBus e) ≡ true
-  own-bus = eq-eqb (extendedBus e) (extendedBus e) refl
-
-  module _ (t : type e ≡ mappingType) (kind address : ℕ) where
-    pub mapping-kind : (spaceKind e ≡ kind → ⊥) → 1 ≡ rank kind address e
-    unfolding rank takesAway coversOrAdds covers touches adds hasEntry
-    mapping-kind h = rw (t, own-bus, ne-eqb (spaceKind e) kind h)
+  module _ (kind address : ℕ) where
+    pub mapping-kind : (spaceKind e ≡ kind → ⊥) → 1 ≡ mappingRank kind address e
+    unfolding mappingRank
+    mapping-kind h = rw (ne-eqb (spaceKind e) kind h)
 
     module _ (k : spaceKind e ≡ kind) where
-      pub mapping-below : address < spaceBase e → 1 ≡ rank kind address e
-      unfolding rank takesAway coversOrAdds covers touches adds hasEntry
-      mapping-below h = rw (t, own-bus, eq-eqb (spaceKind e) kind k, lt-leb (spaceBase e) address h)
+      pub mapping-below : address < spaceBase e → 1 ≡ mappingRank kind address e
+      unfolding mappingRank
+      mapping-below h = rw (eq-eqb (spaceKind e) kind k, lt-leb (spaceBase e) address h)
 
       module _ (h : spaceBase e ≤ address) where
-        pub mapping-in : address - spaceBase e < spaceLength e → 3 ≡ rank kind address e
-        unfolding rank takesAway coversOrAdds covers touches adds hasEntry
+        pub mapping-in : address - spaceBase e < spaceLength e → 3 ≡ mappingRank kind address e
+        unfolding mappingRank
         mapping-in g =
             rw (
-              t,
-              own-bus,
               eq-eqb (spaceKind e) kind k,
               le-leb (spaceBase e) address h,
               lt-ltb address (spaceBase e + spaceLength e) (omega arith),
             )
 
-        pub mapping-past : spaceLength e ≤ address - spaceBase e → 1 ≡ rank kind address e
-        unfolding rank takesAway coversOrAdds covers touches adds hasEntry
+        pub mapping-past : spaceLength e ≤ address - spaceBase e → 1 ≡ mappingRank kind address e
+        unfolding mappingRank
         mapping-past g =
             rw (
-              t,
-              own-bus,
               eq-eqb (spaceKind e) kind k,
               le-leb (spaceBase e) address h,
               le-ltb address (spaceBase e + spaceLength e) (omega arith),
             )
 
-  module _ (t : type e ≡ hierarchyType) (kind address : ℕ) where
-    pub link-on : getD e 3 0 % 2 ≡ 1 → 2 ≡ rank kind address e
-    unfolding rank takesAway coversOrAdds covers touches adds hasEntry bit
-    link-on h = rw (t, div-one, h)
+  pub link-on : getD e 3 0 % 2 ≡ 1 → 2 ≡ linkRank e
+  unfolding linkRank bit
+  link-on h = rw (div-one, h)
 
-    pub link-off : (getD e 3 0 % 2 ≡ 1 → ⊥) → 0 ≡ rank kind address e
-    unfolding rank takesAway coversOrAdds covers touches adds hasEntry bit
-    link-off h = rw (t, div-one, ne-eqb (getD e 3 0 % 2) 1 h)
+  pub link-off : (getD e 3 0 % 2 ≡ 1 → ⊥) → 0 ≡ linkRank e
+  unfolding linkRank bit
+  link-off h = rw (div-one, ne-eqb (getD e 3 0 % 2) 1 h)
 
-  module _ (t : type e ≡ modifierType) (kind address : ℕ)
+  module _ (kind address : ℕ)
       {list : ℕ} (f : list ≡ rangeList e) {found : Bool} (w : found ≡ (eqb kind 0 && inList list address)) where
-    pub modifier-takes : found ≡ true → getD e 3 0 % 2 ≡ 1 → 4 ≡ rank kind address e
-    unfolding rank takesAway coversOrAdds covers touches adds hasEntry bit
-    modifier-takes g h = rw (t, own-bus, ← f, ← w, g, div-one, h)
+    pub modifier-takes : found ≡ true → getD e 3 0 % 2 ≡ 1 → 4 ≡ modifierRank kind address e
+    unfolding modifierRank bit
+    modifier-takes g h = rw (← f, ← w, g, div-one, h)
 
-    pub modifier-adds : found ≡ true → (getD e 3 0 % 2 ≡ 1 → ⊥) → 3 ≡ rank kind address e
-    unfolding rank takesAway coversOrAdds covers touches adds hasEntry bit
-    modifier-adds g h = rw (t, own-bus, ← f, ← w, g, div-one, ne-eqb (getD e 3 0 % 2) 1 h)
+    pub modifier-adds : found ≡ true → (getD e 3 0 % 2 ≡ 1 → ⊥) → 3 ≡ modifierRank kind address e
+    unfolding modifierRank bit
+    modifier-adds g h = rw (← f, ← w, g, div-one, ne-eqb (getD e 3 0 % 2) 1 h)
 
-    pub modifier-none : found ≡ false → 1 ≡ rank kind address e
-    unfolding rank takesAway coversOrAdds covers touches adds hasEntry
-    modifier-none g = rw (t, own-bus, ← f, ← w, g)
-
-  pub rank-other :
-      (kind address : ℕ) → (type e ≡ mappingType → ⊥) → (type e ≡ hierarchyType → ⊥) → (type e ≡ modifierType → ⊥)
-      → 0 ≡ rank kind address e
-  unfolding rank takesAway coversOrAdds covers touches adds hasEntry
-  rank-other kind address m l o =
-      rw (ne-eqb (type e) mappingType m, ne-eqb (type e) hierarchyType l, ne-eqb (type e) modifierType o)
+    pub modifier-none : found ≡ false → 1 ≡ modifierRank kind address e
+    unfolding modifierRank
+    modifier-none g = rw (← f, ← w, g)
 
 -- ---- Steps of the loops over the rows: nothing whole is left, or the row there is put to its bus
 
 module _ (n : ℕ) (s : List ℕ) (at : ℕ) (h : at ≤ length s) where
   module _ (f : length s - at < n) where
-    pub marked-done : (kind address : ℕ) (marks : List ℕ) → marked kind address marks (rows n (drop at s)) ≡ marks
+    pub marked-done : (rank : Entry → ℕ) (marks : List ℕ) → marked rank marks (rows n (drop at s)) ≡ marks
     unfolding marked
-    marked-done kind address marks = rw (rows-done n s at h f)
+    marked-done rank marks = rw (rows-done n s at h f)
+
+    pub parented-done : (parents : List ℕ) → parented parents (rows n (drop at s)) ≡ parents
+    unfolding parented
+    parented-done parents = rw (rows-done n s at h f)
 
   module _ (z : 8 ≤ n) (f : n ≤ length s - at) (bus : ℕ) (b : bus ≡ getD s (at + 2) 0) where
-    pub row-there : rows n (drop at s) ≡ take n (drop at s) ∷ rows n (drop (at + n) s)
+    row-there : rows n (drop at s) ≡ take n (drop at s) ∷ rows n (drop (at + n) s)
     row-there = rows-next n s at (omega arith) h f
 
-    pub row-bus : extendedBus (take n (drop at s)) ≡ bus
+    row-bus : extendedBus (take n (drop at s)) ≡ bus
     row-bus = row-byte n s at 2 (omega arith) ∙ sym b
 
     pub marked-next :
-        (kind address : ℕ) (marks : List ℕ) (said mark : ℕ) → said ≡ rank kind address (part at (at + n) s)
+        (rank : Entry → ℕ) (marks : List ℕ) (said mark : ℕ) → said ≡ rank (part at (at + n) s)
         → mark ≡ max (getD marks bus 0) said
-        → marked kind address marks (rows n (drop at s))
-        ≡ marked kind address (set marks bus mark) (rows n (drop (at + n) s))
+        → marked rank marks (rows n (drop at s)) ≡ marked rank (set marks bus mark) (rows n (drop (at + n) s))
     unfolding marked
-    marked-next kind address marks said mark e g =
+    marked-next rank marks said mark e g =
         let width : at + n - at ≡ n = omega arith in
         rw (row-there, marked, row-bus, g, e, width)
+
+    pub parented-next : (parents : List ℕ)
+        → parented parents (rows n (drop at s)) ≡ parented (set parents bus (getD s (at + 4) 0)) (rows n (drop (at + n) s))
+    unfolding parented
+    parented-next parents = rw (row-there, parented, row-bus, row-byte n s at 4 (omega arith))

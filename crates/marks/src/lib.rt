@@ -1,19 +1,22 @@
-// What each bus says of an address by itself, gathered from the entries that name it.
+// What each bus says of an address by itself, and its parent, gathered from the entries that name it.
 //
-// Promised of any bytes: `gather` answers `allMarked` of the whole entries in them: a number for each of the 256 buses, the
-// highest that one of its entries says (`rank`). The definitions stand in specs/Marks.antt, which cites mps's
-// specs/Addresses.antt for what an entry says; that the highest number is mps's `says` is a law of proofs/Marks.antt
-// (`says-highest`).
+// Promised of any bytes: `gather` leaves `allMarked` of the whole entries in them: a number for each of the 256 buses, the
+// highest that one of its entries says; and `parented` of the links: the parent that each bus has by them. The definitions
+// stand in specs/Marks.antt. That the highest number is what mps's `says` says, where the entries are those of a table by
+// their types, is a law of proofs/Marks.antt (`marked-says`).
+//
+// The lists are lent and stored in, so that none is copied. Each type has a loop of its own, in which nothing is asked that
+// the place has told: a caller gives the entries of a type, and no type is read.
 use mps::layout;
 ghost use mathlib.Core.Path.{_≡_};
 ghost use mathlib.Core.Bool.{_&&_};
 ghost use Prim.Native.Nat.{ℕ, _≤_, max};
 ghost use lib.ListN.{length};
 ghost use lib.Dec.{eqb};
-ghost use Rattle.mps.specs.Layout.{type, mappingType, hierarchyType, modifierType, mappingSize, linkSize};
+ghost use Rattle.mps.specs.Layout.{mappingSize, linkSize};
 ghost use Rattle.mps.specs.Ranges.{inList};
 ghost use Rattle.mps.specs.Sections.{rows};
-ghost use Rattle.marks.specs.Marks.{rank as rankOf, marked, allMarked, listsAt};
+ghost use Rattle.marks.specs.Marks.{mappingRank, linkRank, modifierRank, marked, allMarked, parented, listsAt};
 
 // What an entry says of its bus, the higher before the lower: nothing, that the bus has an entry, that it is to ask its
 // parent, that it sees the address, that the address is taken away from it.
@@ -29,30 +32,90 @@ pub const SEES: u8 = 3;
 const TAKEN: u8 = 4;
 
 // From the entries of the three types: mappings, links and modifiers.
-pub fn gather(mappings: &[u8], links: &[u8], modifiers: &[u8], kind: u8, address: u64) -> [u8; 256]
-    ensures { λ r. ⌜ r ≡ allMarked kind address (rows mappingSize (now (mappings .entry))) (rows linkSize (now (links .entry))) (rows linkSize (now (modifiers .entry))) ⌝ }
+pub fn gather(
+    marks: &mut [u8; 256],
+    parents: &mut [u8; 256],
+    mappings: &[u8],
+    links: &[u8],
+    modifiers: &[u8],
+    kind: u8,
+    address: u64,
+)
+    ensures { λ _. ⌜ now (marks .exit) ≡ allMarked kind address (now (marks .entry)) (rows mappingSize (now (mappings .entry))) (rows linkSize (now (links .entry))) (rows linkSize (now (modifiers .entry))) ⌝ }
+    ensures { λ _. ⌜ now (parents .exit) ≡ parented (now (parents .entry)) (rows linkSize (now (links .entry))) ⌝ }
 {
-    let lists = lists(kind, address);
-    let mut marks = [0; 256];
-    mark(
-        &mut marks,
-        mappings,
-        layout::MAPPING_SIZE,
-        kind,
-        address,
-        lists,
-    );
-    mark(&mut marks, links, layout::LINK_SIZE, kind, address, lists);
-    mark(
-        &mut marks,
-        modifiers,
-        layout::LINK_SIZE,
-        kind,
-        address,
-        lists,
-    );
-    marks
+    mark_mappings(marks, mappings, kind, address);
+    mark_links(marks, parents, links);
+    mark_modifiers(marks, modifiers, kind, address);
 }
+
+fn higher(a: u8, b: u8) -> u8
+    ensures { λ r. ⌜ r ≡ max a b ⌝ }
+{
+    if a < b { b } else { a }
+}
+
+// ---- Mappings
+
+// The place in the range is compared with its length: no sum that could pass 2^64.
+fn mapping_rank(e: &[u8], kind: u8, address: u64) -> u8
+    requires { ⌜ linkSize ≤ length (now e) ⌝ }
+    ensures { λ r. ⌜ r ≡ mappingRank kind address (now (e .entry)) ⌝ }
+{
+    let base = numbers::le64(e, layout::SPACE_BASE);
+    let length = numbers::le64(e, layout::SPACE_LENGTH);
+    if e[layout::SPACE_KIND] != kind {
+        return DECLARED;
+    }
+    if address < base {
+        return DECLARED;
+    }
+    if address - base < length {
+        return SEES;
+    }
+    DECLARED
+}
+
+fn mark_mappings(marks: &mut [u8; 256], s: &[u8], kind: u8, address: u64)
+    ensures { λ _. ⌜ now (marks .exit) ≡ marked (mappingRank kind address) (now (marks .entry)) (rows mappingSize (now (s .entry))) ⌝ }
+{
+    let mut at = 0;
+    while layout::MAPPING_SIZE <= s.len() - at {
+        let bus = numbers::wide(s[at + layout::EXTENDED_BUS]) as usize;
+        let said = mapping_rank(&s[at..at + layout::MAPPING_SIZE], kind, address);
+        marks[bus] = higher(marks[bus], said);
+        at += layout::MAPPING_SIZE;
+    }
+}
+
+// ---- Links
+
+// A link declares nothing: without the subtractive bit the bus says nothing by it.
+fn link_rank(e: &[u8]) -> u8
+    requires { ⌜ linkSize ≤ length (now e) ⌝ }
+    ensures { λ r. ⌜ r ≡ linkRank (now (e .entry)) ⌝ }
+{
+    if e[layout::LINK_BIT] % 2 == 1 {
+        return PARENT;
+    }
+    UNDECLARED
+}
+
+fn mark_links(marks: &mut [u8; 256], parents: &mut [u8; 256], s: &[u8])
+    ensures { λ _. ⌜ now (marks .exit) ≡ marked linkRank (now (marks .entry)) (rows linkSize (now (s .entry))) ⌝ }
+    ensures { λ _. ⌜ now (parents .exit) ≡ parented (now (parents .entry)) (rows linkSize (now (s .entry))) ⌝ }
+{
+    let mut at = 0;
+    while layout::LINK_SIZE <= s.len() - at {
+        let bus = numbers::wide(s[at + layout::EXTENDED_BUS]) as usize;
+        let said = link_rank(&s[at..at + layout::LINK_SIZE]);
+        parents[bus] = s[at + layout::PARENT_BUS];
+        marks[bus] = higher(marks[bus], said);
+        at += layout::LINK_SIZE;
+    }
+}
+
+// ---- Modifiers
 
 // The lists that the address lies in: none where modifiers do not touch it.
 fn lists(kind: u8, address: u64) -> u8
@@ -80,39 +143,9 @@ fn touched(lists: u8, list: u32) -> bool
     false
 }
 
-// The place in the range is compared with its length: no sum that could pass 2^64.
-fn mapping_rank(e: &[u8], kind: u8, address: u64) -> u8
-    requires { ⌜ (linkSize ≤ length (now e)) × (type (now e) ≡ mappingType) ⌝ }
-    ensures { λ r. ⌜ r ≡ rankOf kind address (now (e .entry)) ⌝ }
-{
-    let base = numbers::le64(e, layout::SPACE_BASE);
-    let length = numbers::le64(e, layout::SPACE_LENGTH);
-    if e[layout::SPACE_KIND] != kind {
-        return DECLARED;
-    }
-    if address < base {
-        return DECLARED;
-    }
-    if address - base < length {
-        return SEES;
-    }
-    DECLARED
-}
-
-// A link declares nothing: without the subtractive bit the bus says nothing by it.
-fn link_rank(e: &[u8]) -> u8
-    requires { ⌜ (linkSize ≤ length (now e)) × (type (now e) ≡ hierarchyType) ⌝ }
-    ensures { λ r. ⌜ ((kind address : ℕ) → r ≡ rankOf kind address (now (e .entry))) ⌝ }
-{
-    if e[layout::LINK_BIT] % 2 == 1 {
-        return PARENT;
-    }
-    UNDECLARED
-}
-
 fn modifier_rank(e: &[u8], lists: u8) -> u8
-    requires { ⌜ (linkSize ≤ length (now e)) × (type (now e) ≡ modifierType) ⌝ }
-    ensures { λ r. ⌜ ((kind address : ℕ) → lists ≡ listsAt kind address → r ≡ rankOf kind address (now (e .entry))) ⌝ }
+    requires { ⌜ linkSize ≤ length (now e) ⌝ }
+    ensures { λ r. ⌜ ((kind address : ℕ) → lists ≡ listsAt kind address → r ≡ modifierRank kind address (now (e .entry))) ⌝ }
 {
     if touched(lists, numbers::le32(e, layout::RANGE_LIST)) {
         if e[layout::LINK_BIT] % 2 == 1 {
@@ -123,40 +156,16 @@ fn modifier_rank(e: &[u8], lists: u8) -> u8
     DECLARED
 }
 
-// What an entry says of its own bus. `lists` are those that the address lies in.
-fn rank(e: &[u8], kind: u8, address: u64, lists: u8) -> u8
-    requires { ⌜ (linkSize ≤ length (now e)) × (lists ≡ listsAt kind address) ⌝ }
-    ensures { λ r. ⌜ r ≡ rankOf kind address (now (e .entry)) ⌝ }
+// The lists are looked up once.
+fn mark_modifiers(marks: &mut [u8; 256], s: &[u8], kind: u8, address: u64)
+    ensures { λ _. ⌜ now (marks .exit) ≡ marked (modifierRank kind address) (now (marks .entry)) (rows linkSize (now (s .entry))) ⌝ }
 {
-    let found = e[0];
-    if found == layout::MAPPING_TYPE {
-        return mapping_rank(e, kind, address);
-    }
-    if found == layout::HIERARCHY_TYPE {
-        return link_rank(e);
-    }
-    if found == layout::MODIFIER_TYPE {
-        return modifier_rank(e, lists);
-    }
-    UNDECLARED
-}
-
-fn higher(a: u8, b: u8) -> u8
-    ensures { λ r. ⌜ r ≡ max a b ⌝ }
-{
-    if a < b { b } else { a }
-}
-
-// What the entries say, of entries of `size` bytes each, put to their buses.
-fn mark(marks: &mut [u8], s: &[u8], size: usize, kind: u8, address: u64, lists: u8)
-    requires { ⌜ (linkSize ≤ size) × (length (now marks) ≡ 256) × (lists ≡ listsAt kind address) ⌝ }
-    ensures { λ _. ⌜ now (marks .exit) ≡ marked kind address (now (marks .entry)) (rows size (now (s .entry))) ⌝ }
-{
+    let lists = lists(kind, address);
     let mut at = 0;
-    while size <= s.len() - at {
+    while layout::LINK_SIZE <= s.len() - at {
         let bus = numbers::wide(s[at + layout::EXTENDED_BUS]) as usize;
-        let said = rank(&s[at..at + size], kind, address, lists);
+        let said = modifier_rank(&s[at..at + layout::LINK_SIZE], lists);
         marks[bus] = higher(marks[bus], said);
-        at += size;
+        at += layout::LINK_SIZE;
     }
 }

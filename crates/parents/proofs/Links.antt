@@ -17,8 +17,8 @@ use Rattle.laws.proofs.Tests.{whether, or-parts, or-swap, or-four}
 use Rattle.laws.proofs.Rows.{rows-short, rows-count}
 use Rattle.laws.proofs.Small.{Bytes, Small, small-none, small-more, small-rows}
 use Rattle.laws.proofs.Circle.{climbs, endless, parentsOf-here, parentsOf-skip, endless-circle, ends-free}
-use Rattle.parents.specs.Parents.{wrongParents, Array, store, filled, clash, goesOn, cleared, endlessIn}
-use Rattle.parents.proofs.Laws.{set-at, blank, blank-length, goes-stop, goes-next, cleared-keeps, array-cleared}
+use Rattle.parents.specs.Parents.{wrongHierarchyIn, wrongParents, wrongLinks, store, filled, clash, stopped, goesOn, cleared, endlessIn}
+use Rattle.parents.proofs.Laws.{set-at, without-at, blank, blank-length, goes-stop, goes-next, cleared-keeps}
 
 -- ---- Two links of one bus
 
@@ -138,19 +138,19 @@ module _ (ls : List Entry) where
       is bus = filled-link (blank 256) ls bus (blank-length 256) l t ∙ rw (zeros-at 256 bus)
 
   -- and so it does without the link of a bus whose climb ends.
-  told-set : (up : List ℕ) (bus : ℕ) → Told ls up → bus < length up → Ends ls bus → Told ls (set up bus 0)
-  told-set up bus t h e = record {
+  told-set : (up : List ℕ) (bus : ℕ) → Told ls up → Ends ls bus → Told ls (set up bus 0)
+  told-set up bus t e = record {
     ended = λ j. ended-at j (eqb bus j) refl;
     leads = λ j. leads-at j (eqb bus j) refl;
   }
     where
       ended-at : (j : ℕ) (b : Bool) → eqb bus j ≡ b → getD (set up bus 0) j 0 ≡ 0 → Ends ls j
       ended-at j true w q = rw (← eqb-true bus j w) e
-      ended-at j false w q = t .ended j (sym (set-at up bus 0 j false h w) ∙ q)
+      ended-at j false w q = t .ended j (sym (without-at up bus j false w) ∙ q)
 
       leads-at : (j : ℕ) (b : Bool) → eqb bus j ≡ b → (p : ℕ) → getD (set up bus 0) j 0 ≡ suc p → Leads ls j p
-      leads-at j true w p q = absurd (omega (arith, set-at up bus 0 j true h w, q))
-      leads-at j false w p q = t .leads j p (sym (set-at up bus 0 j false h w) ∙ q)
+      leads-at j true w p q = absurd (omega (arith, without-at up bus j true w, q))
+      leads-at j false w p q = t .leads j p (sym (without-at up bus j false w) ∙ q)
 
   -- A climb that goes on in the array goes on in the links,
   goes-climbs : (up : List ℕ) → Told ls up → (n bus : ℕ) → goesOn n up bus ≡ true → climbs n ls bus ≡ true
@@ -183,12 +183,11 @@ module _ (ls : List Entry) where
   ends-up bus p l (suc k, e) = (k, sym (l k) ∙ e)
 
   -- so all links of that climb can be taken away.
-  told-cleared :
-      (n : ℕ) (up : List ℕ) (bus : ℕ) → Array up → bus < 256 → Told ls up → Ends ls bus → Told ls (cleared n up bus)
-  told-cleared n up bus a h t e =
+  told-cleared : (n : ℕ) (up : List ℕ) (bus : ℕ) → Told ls up → Ends ls bus → Told ls (cleared n up bus)
+  told-cleared n up bus t e =
       cleared-keeps (λ u b. Told ls u × Ends ls b)
-      (λ u b p c l q k. (told-set u b (k .0) (omega (arith, c .0, l)) (k .1), ends-up b p (k .0 .leads b p q) (k .1)))
-      n up bus a h (t, e) .1 .1 .0
+      (λ u b p q k. (told-set u b (k .0) (k .1), ends-up b p (k .0 .leads b p q) (k .1)))
+      n up bus (t, e) .1 .0
 
   -- ---- All climbs
 
@@ -202,12 +201,11 @@ module _ (ls : List Entry) where
   found-next e es true w f = f
   found-next e es false w f = rw (ends-free ls (w .0) (extendedBus e) (w .1)) f
 
-  found-in : (es : List Entry) (up : List ℕ) → Small es → Array up → Told ls up → Found es (endlessIn (suc (length ls)) up es)
+  found-in : (es : List Entry) (up : List ℕ) → Told ls up → Found es (endlessIn (suc (length ls)) up es)
   unfolding endlessIn Found any each endless
-  found-in [] up l a t = refl
-  found-in (e ∷ es) up (small-more w l) a t =
-      cases (goesOn n up b) refl
-      (λ k. found-in es (cleared n up b) l (array-cleared n up b a (w 2)) (told-cleared n up b a (w 2) t k))
+  found-in [] up t = refl
+  found-in (e ∷ es) up t =
+      cases (goesOn n up b) refl (λ k. found-in es (cleared n up b) (told-cleared n up b t k))
     where
       n : ℕ
       n = suc (length ls)
@@ -223,9 +221,9 @@ module _ (ls : List Entry) where
           let w = goes-ends up t n b q in
           rw (endlessIn, q) (found-next e es (endlessIn n (cleared n up b) es) w (ih w))
 
-  endless-is : (up : List ℕ) → Small ls → Array up → Told ls up → endlessIn (suc (length ls)) up ls ≡ circle ls
+  endless-is : (up : List ℕ) → Told ls up → endlessIn (suc (length ls)) up ls ≡ circle ls
   unfolding Found circle
-  endless-is up l a t = cases (endlessIn (suc (length ls)) up ls) (found-in ls up l a t)
+  endless-is up t = cases (endlessIn (suc (length ls)) up ls) (found-in ls up t)
     where
       cases : (x : Bool) → Found ls x → x ≡ circle ls
       cases true f = sym f
@@ -233,22 +231,31 @@ module _ (ls : List Entry) where
 
 -- ---- The answers of `wrong`
 
-module _ (s : List ℕ) (bytes : Bytes s) (r : Bool) (e : r ≡ clash (blank 256) (rows 8 s)) where
-  pub wrong-twice : r ≡ true → true ≡ wrongParents (rows 8 s)
-  unfolding wrongParents
-  wrong-twice t = rw (← clash-twice (rows 8 s) (small-rows 8 s bytes), ← e, t)
+module _ (roll s : List ℕ) (bytes : Bytes s) where
+  -- What ends the filling: a link that is wrong by the roll, or a second one of a bus.
+  stopped-is :
+      stopped roll (blank 256) (rows 8 s) ≡ (any (wrongHierarchyIn roll) (rows 8 s) || twice (each extendedBus (rows 8 s)))
+  unfolding stopped
+  stopped-is = rw (clash-twice (rows 8 s) (small-rows 8 s bytes))
 
-  pub wrong-circle :
-      (up : List ℕ) (n : ℕ) → r ≡ false → up ≡ filled (blank 256) (rows 8 s) → Array up → n ≡ suc (length s / 8)
-      → endlessIn n up (rows 8 s) ≡ wrongParents (rows 8 s)
-  unfolding wrongParents
-  wrong-circle up n f u a h =
-      let ls = rows 8 s in
-      let l = small-rows 8 s bytes in
-      let t = sym (clash-twice ls l) ∙ sym e ∙ f in
-      rw (t, h, ← rows-count s) (endless-is ls up l a (rw u (told-filled ls l t)))
+  module _ (r : Bool) (e : r ≡ stopped roll (blank 256) (rows 8 s)) where
+    pub wrong-stopped : r ≡ true → true ≡ wrongLinks roll (rows 8 s)
+    unfolding wrongLinks wrongParents
+    wrong-stopped t =
+        let w = any (wrongHierarchyIn roll) (rows 8 s) in
+        let d = twice (each extendedBus (rows 8 s)) in
+        sym (ap (λ (x : Bool). x || circle (rows 8 s)) (sym stopped-is ∙ sym e ∙ t)) ∙ or-assoc w d (circle (rows 8 s))
+
+    pub wrong-circle :
+        (up : List ℕ) (n : ℕ) → r ≡ false → up ≡ filled (blank 256) (rows 8 s) → n ≡ suc (length s / 8)
+        → endlessIn n up (rows 8 s) ≡ wrongLinks roll (rows 8 s)
+    unfolding wrongLinks wrongParents
+    wrong-circle up n f u h =
+        let ls = rows 8 s in
+        let no = or-parts (any (wrongHierarchyIn roll) ls) (twice (each extendedBus ls)) (sym stopped-is ∙ sym e ∙ f) in
+        rw (no .0, no .1, h, ← rows-count s) (endless-is ls up (rw u (told-filled ls (small-rows 8 s bytes) (no .1))))
 
 -- Where there is no link nothing is wrong.
-pub wrong-none : (s : List ℕ) → length s < 8 → false ≡ wrongParents (rows 8 s)
-unfolding wrongParents twice each circle any
-wrong-none s h = rw (rows-short 8 s h)
+pub wrong-none : (roll s : List ℕ) → length s < 8 → false ≡ wrongLinks roll (rows 8 s)
+unfolding wrongLinks wrongParents twice each circle any
+wrong-none roll s h = rw (rows-short 8 s h)

@@ -1,22 +1,30 @@
--- What the type 129 entries of a table say of parents alone, refusal 18: "second type 129 entry for a bus; parents in a
--- circle (self too)". Behind it stand the steps of the crate's private functions, over an array that has a number for each
--- bus: 0 for no link, p + 1 for a link to the parent p.
+-- What the links of a table, its type 129 entries, may not say. Document 01, refusal 18: "extended bus or parent not listed;
+-- second type 129 entry for a bus; parents in a circle (self too)". Behind it stand the steps of the crate's private
+-- functions, over an array that has a number for each bus: 0 for no link, p + 1 for a link to the parent p.
 use Prim.Native.Nat.{ℕ, zero, suc, _<_}
-use mathlib.Core.Path.{_≡_}
-use mathlib.Core.Bool.{Bool, true, false, _||_}
+use mathlib.Core.Bool.{Bool, true, false, not, _||_}
 use mathlib.Core.List.{List, [], _∷_}
-use lib.ListN.{length, getD, set}
-use Rattle.mps.specs.Words.{twice, each}
+use lib.ListN.{getD, set}
+use Rattle.mps.specs.Words.{any, twice, each}
 use Rattle.mps.specs.Layout.{Entry, extendedBus, parentBus}
 use Rattle.mps.specs.Rules.{circle}
+use Rattle.roll.specs.Roll.{marked, busBit}
+
+-- The bus or the parent of a link is not on the roll: bit 3 is set at the ID of a listed bus.
+unfoldable pub wrongHierarchyIn : List ℕ → Entry → Bool
+wrongHierarchyIn roll e = not (marked busBit roll (extendedBus e)) || not (marked busBit roll (parentBus e))
 
 -- Some bus has two links, or the parents go in a circle.
 unfoldable pub wrongParents : List Entry → Bool
 wrongParents ls = twice (each extendedBus ls) || circle ls
 
--- The array has a place for each bus, and each link leads to one of them.
+-- Some link is wrong by itself, or they are wrong together.
+unfoldable pub wrongLinks : List ℕ → List Entry → Bool
+wrongLinks roll ls = any (wrongHierarchyIn roll) ls || wrongParents ls
+
+-- Each link of the array leads to a bus.
 abbrev pub Array : List ℕ → Type 0
-Array up = (length up ≡ 256) × ((bus : ℕ) → getD up bus 0 < 257)
+Array up = (bus : ℕ) → getD up bus 0 < 257
 
 -- The array with one link stored.
 abbrev pub store : List ℕ → Entry → List ℕ
@@ -31,6 +39,10 @@ filled up (e ∷ ls) = filled (store up e) ls
 unfoldable pub clash : List ℕ → List Entry → Bool
 clash up [] = false
 clash up (e ∷ ls) = elim (getD up (extendedBus e) 0) [ zero ↦ clash (store up e) ls | suc p ↦ true ]
+
+-- Whether some link is wrong by the roll, or clashes.
+unfoldable pub stopped : List ℕ → List ℕ → List Entry → Bool
+stopped roll up ls = any (wrongHierarchyIn roll) ls || clash up ls
 
 -- Whether so many links can be climbed from a bus.
 unfoldable pub goesOn : ℕ → List ℕ → ℕ → Bool

@@ -5,7 +5,7 @@ use mathlib.Core.Bool.{Bool, true}
 use mathlib.Core.List.{List, _∷_, _++_}
 use native.Mathlib.Omega.{arith}
 use lib.ListN.{length, take, drop, replicate, length-append, length-replicate}
-use lib.Seq.{take-append-add, take-all, take-at, sets, sets-eq}
+use lib.Seq.{take-append-add, take-all, sets, sets-eq}
 use Rattle.mps.specs.Words.{keep, head}
 use Rattle.mps.specs.Layout.{regionsMost}
 use Rattle.mps.specs.declared.Region.{Region}
@@ -46,10 +46,6 @@ module _ (rs : List Region) (h : length rs ≤ regionsMost) where
   -- All eight of them.
   pub take-eight : take 8 (eight rs) ≡ eight rs
   take-eight = take-all 8 (eight rs) (omega (arith, length-eight))
-
-  -- As many as there are regions.
-  pub take-count : (n : ℕ) → length rs ≡ n → take n (eight rs) ≡ rs
-  take-count n e = rw eight-is (take-at rs (replicate (regionsMost - length rs) blank) n e)
 
   -- A search over the eight records answers as one over the regions, where it does not find a blank one.
   pub first-eight :

@@ -1,5 +1,4 @@
 pub mod Firsts
-pub mod Places
 pub mod Search
 mod Walk
 pub mod Coded

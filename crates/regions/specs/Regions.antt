@@ -1,10 +1,10 @@
--- The regions of a dump as the code holds them: eight records by value, the regions of the dump first.
+-- The regions of a dump as the code reads them: a row, and eight records by value, the regions of the dump first.
 use Prim.Native.Nat.{ℕ, suc}
 use mathlib.Core.Bool.{cond}
 use mathlib.Core.List.{List, [], _∷_, _++_}
 use lib.ListN.{take, replicate}
 use Rattle.mps.specs.Words.{keep, head}
-use Rattle.mps.specs.Layout.{regionsMost}
+use Rattle.mps.specs.Layout.{regionsMost, rowKind, rowBase, rowSize}
 use Rattle.mps.specs.Dump.{ofKind, noRegion, holds}
 use Rattle.mps.specs.declared.Region.{Region}
 
@@ -15,6 +15,10 @@ blank = noRegion 0
 -- Eight records: the first eight regions, and where there are fewer, blank ones behind them.
 unfoldable pub eight : List Region → List Region
 eight rs = take regionsMost (rs ++ replicate regionsMost blank)
+
+-- The region of the row that bytes begin with, its body at `offset`.
+unfoldable pub rowOf : ℕ → List ℕ → Region
+rowOf offset s = record { kind = rowKind s; base = rowBase s; offset = offset; size = rowSize s }
 
 -- The first region of a kind, a blank one where none is listed.
 unfoldable pub firstOfKind : ℕ → List Region → Region

@@ -1,13 +1,15 @@
-// The regions of a dump as the code holds them, and the searches over them.
+// A region of a dump: its row in the contents, and the search for the one that holds an address.
 //
-// Promised of any records: `of_kind` and `holding` answer the first region of a kind and the one that holds an address;
-// `place_of` and `place_in` answer the place of that one in a lent slice and in an array. The definitions stand in
-// specs/Regions.antt and in mps's specs/Dump.antt; proofs/Eight.antt has what a caller may use.
+// Promised of any bytes: `row` answers the region that nine bytes of the contents describe. Promised of any records:
+// `holding` answers the one that holds an address; `place_of` and `place_in` answer its place in a lent slice and in an
+// array. The definitions stand in specs/Regions.antt and in mps's specs/Dump.antt; what a caller may use stands in
+// proofs/Coded.antt, Eight.antt and Firsts.antt.
 //
-// The regions are eight records by value. A record that is not filled is blank: it has kind 0 and no byte, so a search
-// passes it over, and no count has to go with the array that a caller gets. The search for an address goes over a lent
-// slice of records: the borrow checker covers no function with one, so `place_of` and `place_in`, which lends it, are
-// proved by hand, and both are thin.
+// Who passes along the rows of a dump reads each row where it stands: eight records by value are 192 bytes, copied at each
+// call. They are made for the search for an address only, which goes over a lent slice of records. A record that is not
+// filled is blank: it has kind 0 and no byte, so the search passes it over, and no count goes with the array. The borrow
+// checker covers no function with such a slice, so `place_of` and `place_in`, which lends it, are proved by hand, and both
+// are thin.
 use mps::Region;
 use mps::layout;
 ghost use mathlib.Core.Path.{_≡_};
@@ -16,7 +18,7 @@ ghost use mathlib.Core.Bool.{_&&_};
 ghost use lib.ListN.{take};
 ghost use lib.Dec.{leb, ltb};
 ghost use Rattle.mps.specs.Dump.{holding as holdingOf};
-ghost use Rattle.regions.specs.Regions.{firstOfKind, placeHolding};
+ghost use Rattle.regions.specs.Regions.{rowOf, placeHolding};
 
 // A record that is not filled.
 pub const BLANK: Region = Region {
@@ -26,19 +28,16 @@ pub const BLANK: Region = Region {
     size: 0,
 };
 
-// A blank one where none is listed; a caller sees that by its kind.
-pub fn of_kind(rs: [Region; 8], kind: u8) -> Region
-    ensures { λ r. ⌜ r ≡ firstOfKind kind (take 8 rs) ⌝ }
+// The row that bytes begin with, of a region whose body is at `offset`.
+pub fn row(s: &[u8], offset: usize) -> Region
+    ensures { λ r. ⌜ r ≡ rowOf offset (now (s .entry)) ⌝ }
 {
-    let mut i = 0;
-    while i < layout::REGIONS_MOST {
-        let r = rs[i];
-        if r.kind == kind {
-            return r;
-        }
-        i += 1;
+    Region {
+        kind: numbers::byte(s, layout::ROW_KIND),
+        base: numbers::le32(s, layout::ROW_BASE),
+        offset,
+        size: numbers::le32(s, layout::ROW_SIZE),
     }
-    BLANK
 }
 
 // The bound is said because a caller sees a number, and not its type.

@@ -1,49 +1,57 @@
 -- Laws of what the passes over a side's entries do: ask an entry, count what it names, gather the IDs. Assumes nothing.
 use Prim.Native.Nat.{ℕ, _+_, _-_, _*_, _%_, _≤_, _<_}
-use mathlib.Core.Path.{_≡_, ap, sym, _∙_}
-use mathlib.Core.Bool.{Bool, true, false, _&&_}
+use mathlib.Core.Path.{_≡_, refl, ap, sym, _∙_}
+use mathlib.Core.Bool.{Bool, true, false, _&&_, _||_, and-true, and-false, or-false, or-assoc}
 use mathlib.Core.List.{List, [], _∷_}
 use native.Mathlib.Omega.{arith}
 use native.Mathlib.Numerals.{add-one}
 use lib.Dec.{eqb}
-use lib.ListN.{length, getD, set, take, drop, length-set}
+use lib.ListN.{length, getD, set, take, drop, replicate, length-replicate}
 use lib.Seq.{sets}
 use borrow.Author.Tests.{eq-eqb, ne-eqb}
-use Rattle.mps.specs.Words.{among, keep, each}
+use Rattle.mps.specs.Words.{bit, among, keep, each}
 use Rattle.mps.specs.Sums.{total}
 use Rattle.mps.specs.Layout.{Entry, enabled}
 use Rattle.mps.specs.Sections.{rows}
 use Rattle.mps.specs.Routes.{asked}
-use Rattle.laws.proofs.Tests.{whether}
+use Rattle.laws.proofs.Tests.{whether, or-swap}
 use Rattle.laws.proofs.Lists.{keep-in, keep-out}
 use Rattle.laws.proofs.Rows.{rows-done, rows-next, row-byte}
 use Rattle.apics.proofs.Laws.{row-enabled}
-use Rattle.sets.specs.declared.Numbers.{Numbers}
-use Rattle.sets.specs.Sets.{putAll, noNumbers, holds, withNumber}
-use Rattle.sets.proofs.Laws.{holds-list}
-use Rattle.routes.specs.Pairs.{enabledIn, gathered, named, countIn}
+use Rattle.roll.specs.Roll.{marked, withMarks}
+use Rattle.roll.proofs.Laws.{length-marks, marked-put, marked-none}
+use Rattle.routes.specs.Pairs.{enabledIn, enrolled, OnRoll, named, countIn}
 
 -- ---- asked
 
-pub asked-at :
-    (itype bus irq : ℕ) (s : List ℕ) (at : ℕ)
-    → (eqb (getD s (at + 1) 0) itype && eqb (getD s (at + 4) 0) bus && eqb (getD s (at + 5) 0) irq)
-    ≡ asked itype bus irq (take 8 (drop at s))
-unfolding asked
-asked-at itype bus irq s at =
-    let row = row-byte 8 s at in
-    rw (row 1 (omega arith), row 4 (omega arith), row 5 (omega arith))
+module _ (itype bus irq : ℕ) (s : List ℕ) (at : ℕ) where
+  asked-by :
+      asked itype bus irq (take 8 (drop at s))
+      ≡ (eqb (getD s (at + 1) 0) itype && eqb (getD s (at + 4) 0) bus && eqb (getD s (at + 5) 0) irq)
+  unfolding asked
+  asked-by =
+      let row = row-byte 8 s at in
+      rw (row 1 (omega arith), row 4 (omega arith), row 5 (omega arith))
 
--- ---- named: all of the IDs, or, by the answer of their set, one or none
+  -- The IRQ is another, or the rest decides.
+  pub asked-other : (getD s (at + 5) 0 ≡ irq → ⊥) → false ≡ asked itype bus irq (take 8 (drop at s))
+  asked-other n = rw (asked-by, ne-eqb (getD s (at + 5) 0) irq n) (sym (and-false (eqb (getD s (at + 1) 0) itype && eqb (getD s (at + 4) 0) bus)))
+
+  pub asked-rest :
+      getD s (at + 5) 0 ≡ irq
+      → (eqb (getD s (at + 1) 0) itype && eqb (getD s (at + 4) 0) bus) ≡ asked itype bus irq (take 8 (drop at s))
+  asked-rest e = rw (asked-by, eq-eqb (getD s (at + 5) 0) irq e) (sym (and-true (eqb (getD s (at + 1) 0) itype && eqb (getD s (at + 4) 0) bus)))
+
+-- ---- named: all of the IDs, or, by the answer of the roll that they are on, one or none
 
 module _ (ids : List ℕ) (to : ℕ) where
   pub named-all : to ≡ 255 → named ids to ≡ ids
   unfolding named
   named-all e = rw (eq-eqb to 255 e)
 
-  module _ (n : to ≡ 255 → ⊥) (h : to < 256) (set : Numbers) (p : set ≡ putAll noNumbers ids) {r : Bool} (e : r ≡ holds set to) where
+  module _ (n : to ≡ 255 → ⊥) (h : to < 256) (roll : List ℕ) (on : OnRoll roll ids) {r : Bool} (e : r ≡ marked 1 roll to) where
     found : {b : Bool} → r ≡ b → among to ids ≡ b
-    found f = sym (holds-list ids to h) ∙ rw p at (sym e) ∙ f
+    found f = sym (on to h) ∙ sym e ∙ f
 
     pub named-one : r ≡ true → named ids to ≡ to ∷ []
     unfolding named
@@ -126,25 +134,44 @@ module _ (n : ℕ) (s : List ℕ) (at : ℕ) (h : at ≤ length s) where
     unfolding enabledIn
     enabled-off p = rw (first, keep-out enabled own behind (row-enabled n s at z ∙ ne-eqb _ _ p))
 
--- What the loop that gathers keeps: with the IDs of the rows left it comes to those of all, in number, as a set and in
--- the room, whose length stays.
-abbrev pub Gathers : List ℕ → List ℕ → ℕ → List ℕ → ℕ → Numbers → ℕ → Type 0
-Gathers room s n ids count found at =
+-- ---- enrolled
+
+-- On the roll then are those who are put on it, and who was on it before.
+enrolled-also : (x : ℕ) (roll ids : List ℕ) → x < length roll → marked 1 (enrolled roll ids) x ≡ (among x ids || marked 1 roll x)
+unfolding enrolled among bit
+enrolled-also x roll [] h = refl
+enrolled-also x roll (y ∷ ids) h =
+    let here = eqb x y in
+    let rest = among x ids in
+    let old = marked 1 roll x in
+    let put : marked 1 (withMarks 2 roll y) x ≡ (here || old) =
+    marked-put 1 2 roll y x h ∙ ap (λ (b : Bool). b || old) (and-true here) in
+    enrolled-also x (withMarks 2 roll y) ids (rw (length-marks 2 roll y) h)
+    ∙ rw put (or-swap rest here old ∙ sym (or-assoc here rest old))
+
+-- Of an empty one none was.
+pub enrolled-on : (n : ℕ) (ids : List ℕ) → n ≡ 256 → OnRoll (enrolled (replicate n 0) ids) ids
+enrolled-on n ids size x h =
+    enrolled-also x (replicate n 0) ids (omega (arith, size, h, length-replicate {A = ℕ} n 0))
+    ∙ rw (marked-none 1 n x) (or-false (among x ids))
+
+-- What the loop that gathers keeps: with the IDs of the rows left it comes to those of all, in number, on the roll and in
+-- the list.
+abbrev pub Gathers : List ℕ → List ℕ → List ℕ → ℕ → List ℕ → List ℕ → ℕ → ℕ → Type 0
+Gathers roll₀ ids₀ s n roll ids count at =
     (at ≤ length s)
     × (count + length (enabledIn n (drop at s)) ≡ length (enabledIn n s))
-    × (putAll found (enabledIn n (drop at s)) ≡ putAll noNumbers (enabledIn n s))
-    × (sets ids count (enabledIn n (drop at s)) ≡ sets room 0 (enabledIn n s))
-    × (length ids ≡ length room)
+    × (enrolled roll (enabledIn n (drop at s)) ≡ enrolled roll₀ (enabledIn n s))
+    × (sets ids count (enabledIn n (drop at s)) ≡ sets ids₀ 0 (enabledIn n s))
 
-module _
-    (room s : List ℕ) (n : ℕ) (ids : List ℕ) (count : ℕ) (found : Numbers) (at : ℕ) (inv : Gathers room s n ids count found at) where
+module _ (roll₀ ids₀ s : List ℕ) (n : ℕ) (roll ids : List ℕ) (count at : ℕ) (inv : Gathers roll₀ ids₀ s n roll ids count at) where
   pub gathers-done :
-      length s - at < n → (record { count = count; set = found } ≡ gathered (enabledIn n s)) × (ids ≡ sets room 0 (enabledIn n s))
-  unfolding putAll
+      length s - at < n
+      → (count ≡ length (enabledIn n s)) × ((roll ≡ enrolled roll₀ (enabledIn n s)) × (ids ≡ sets ids₀ 0 (enabledIn n s)))
+  unfolding enrolled
   gathers-done f =
       let none = enabled-done n s at (inv .0) f in
-      let many : count ≡ length (enabledIn n s) = omega (arith, inv .1, ap length none) in
-      (rw (← rw none at (inv .2), many), rw none at (inv .3))
+      (omega (arith, inv .1, ap length none), (rw none at (inv .2), rw none at (inv .3)))
 
   module _ (z : 4 ≤ n) (f : n ≤ length s - at) where
     module _ (p : getD s (at + 3) 0 % 2 ≡ 1) where
@@ -153,19 +180,18 @@ module _
       gathers-room = omega (arith, inv .1, ap length (enabled-on n s at (inv .0) z f p))
 
       pub gathers-on :
-          (more : Numbers) → more ≡ withNumber found (getD s (at + 1) 0)
-          → Gathers room s n (set ids count (getD s (at + 1) 0)) (count + 1) more (at + n)
-      unfolding putAll
+          (more : List ℕ) → more ≡ withMarks 2 roll (getD s (at + 1) 0)
+          → Gathers roll₀ ids₀ s n more (set ids count (getD s (at + 1) 0)) (count + 1) (at + n)
+      unfolding enrolled
       gathers-on more e =
           let here = enabled-on n s at (inv .0) z f p in (
             omega (arith, f, inv .0),
             omega (arith, inv .1, ap length here),
             rw e (rw here at (inv .2)),
             rw (add-one count) (rw here at (inv .3)),
-            length-set ids count (getD s (at + 1) 0) ∙ inv .4,
           )
 
-    pub gathers-off : (getD s (at + 3) 0 % 2 ≡ 1 → ⊥) → Gathers room s n ids count found (at + n)
+    pub gathers-off : (getD s (at + 3) 0 % 2 ≡ 1 → ⊥) → Gathers roll₀ ids₀ s n roll ids count (at + n)
     gathers-off p =
         let same = enabled-off n s at (inv .0) z f p in
-        (omega (arith, f, inv .0), rw same at (inv .1), rw same at (inv .2), rw same at (inv .3), inv .4)
+        (omega (arith, f, inv .0), rw same at (inv .1), rw same at (inv .2), rw same at (inv .3))

@@ -1,5 +1,5 @@
 -- What an accepted table's routes are, by the IDs of its enabled APICs. Assumes nothing.
-use Prim.Native.Nat.{ℕ, _*_}
+use Prim.Native.Nat.{ℕ, _*_, _/_}
 use mathlib.Core.Path.{_≡_, refl, ap, sym, _∙_}
 use mathlib.Core.Bool.{Bool, true, false}
 use mathlib.Core.List.{List, [], _∷_}
@@ -17,6 +17,7 @@ use Rattle.mps.specs.Sections.{rows}
 use Rattle.mps.specs.Judge.{tableRules, tableRefusal}
 use Rattle.mps.specs.Routes.{Question, question, asked, matches, names, pair, pairSize, pairsTo, routes, routesOf, wrongLine, lineRules, routeRefusal, routed, routesLeft}
 use Rattle.mps.specs.declared.Sections.{Sections}
+use Rattle.mps.specs.declared.Lent.{Lent}
 use Rattle.mps.specs.declared.Lent.the-variants.{Refused}
 use Rattle.laws.proofs.Tests.{whether, or-parts}
 use Rattle.laws.proofs.Refusals.{number, first-some, first-none, refusal-append, refusal-stop, refusal-go, refusal-end}
@@ -25,7 +26,7 @@ use Rattle.laws.proofs.Lists.{keep-keep}
 use Rattle.laws.proofs.Joined.{joined-same}
 use Rattle.judge.specs.Placed.{Placed}
 use Rattle.accepted.proofs.Obeyed.{obeyed}
-use Rattle.routes.specs.Pairs.{enabledIn, named, pairsFor, pairsIn, countIn, paired}
+use Rattle.routes.specs.Pairs.{enabledIn, named, pairsFor, pairsIn, countIn}
 
 -- ---- Names: of APICs of which no two have one ID, an entry names all, one, or none
 
@@ -118,6 +119,10 @@ module _ (t : List ℕ) (p : Sections) (placed : Placed t p) (a : tableRefusal t
   local-routes = side-routes t localSide processorSize _ (placed .processors) (obeyed t a .processors) _ (placed .locals)
 
 -- ---- The query: the table's own number, then 24, then 19
+
+-- An answer of pairs in a lent room.
+abbrev pub paired : List ℕ → List ℕ → Lent
+paired pairs room = fitted pairs (length pairs / pairSize) room
 
 module _ (q : Question) (t : List ℕ) where
   line-some : among 0 (each number (lineRules q t)) ≡ false

@@ -14,9 +14,8 @@ use Rattle.mps.specs.Routes.{pair}
 use Rattle.laws.proofs.Lists.{keep-in, keep-out}
 use Rattle.laws.proofs.Rows.{rows-done, rows-next}
 use Rattle.laws.proofs.Stores.{sets-append}
-use Rattle.sets.specs.declared.Numbers.{Numbers}
-use Rattle.sets.specs.Sets.{putAll, noNumbers, holds}
-use Rattle.routes.specs.Pairs.{pairsFor, pairsIn}
+use Rattle.roll.specs.Roll.{marked}
+use Rattle.routes.specs.Pairs.{OnRoll, pairsFor, pairsIn}
 use Rattle.routes.proofs.Counting.{named-all, named-one, named-none}
 
 -- ---- Writing on
@@ -78,17 +77,17 @@ module _ (e : Entry) (ids : List ℕ) (i : ℕ) where
     unfolding pair
     ids-put inv f = writes-next inv one others ids-next refl f
 
--- ---- The pairs of one entry: of all the IDs, or, by the answer of their set, of one or none
+-- ---- The pairs of one entry: of all the IDs, or, by the answer of the roll that they are on, of one or none
 
 module _ (ids : List ℕ) (e : Entry) where
   pub for-all : destination e ≡ 255 → pairsFor ids e ≡ joined (pair e) ids
   unfolding pairsFor
   for-all h = rw (named-all ids (destination e) h)
 
-  module _ (n : destination e ≡ 255 → ⊥) (h : destination e < 256) (set : Numbers) (p : set ≡ putAll noNumbers ids) {r : Bool} (f : r ≡ holds set (destination e)) where
+  module _ (n : destination e ≡ 255 → ⊥) (h : destination e < 256) (roll : List ℕ) (on : OnRoll roll ids) {r : Bool} (f : r ≡ marked 1 roll (destination e)) where
     for-its : r ≡ true → pairsFor ids e ≡ pair e (destination e)
     unfolding pairsFor joined
-    for-its g = rw (named-one ids (destination e) n h set p f g) (append-nil (pair e (destination e)))
+    for-its g = rw (named-one ids (destination e) n h roll on f g) (append-nil (pair e (destination e)))
 
     pub for-one : r ≡ true → (pairsFor ids e ≡ pair e (destination e)) × (length (pairsFor ids e) ≡ 2)
     unfolding pair
@@ -96,7 +95,7 @@ module _ (ids : List ℕ) (e : Entry) where
 
     pub for-none : r ≡ false → pairsFor ids e ≡ []
     unfolding pairsFor joined
-    for-none g = rw (named-none ids (destination e) n h set p f g)
+    for-none g = rw (named-none ids (destination e) n h roll on f g)
 
 -- ---- The pairs of the rows of a slice
 

@@ -1,6 +1,7 @@
 -- The pairs of a route query from the IDs of a side's enabled APICs alone, as the code makes them. In an accepted table no
 -- two of these are the same, so an entry names all of them, one, or none: proofs/Laws.antt.
-use Prim.Native.Nat.{ℕ, _/_}
+use Prim.Native.Nat.{ℕ, _+_, _/_, _<_}
+use mathlib.Core.Path.{_≡_}
 use mathlib.Core.Bool.{Bool, cond}
 use mathlib.Core.List.{List, [], _∷_}
 use lib.ListN.{length}
@@ -10,11 +11,9 @@ use Rattle.mps.specs.Sums.{total}
 use Rattle.mps.specs.Layout.{Entry, enabled, idOf, destination, everyone}
 use Rattle.mps.specs.Rules.{Side, ioSide, localSide}
 use Rattle.mps.specs.Sections.{rows}
-use Rattle.mps.specs.Rooms.{fitted}
+use Rattle.mps.specs.Rooms.{tooSmall}
 use Rattle.mps.specs.Routes.{pair, pairSize}
-use Rattle.mps.specs.declared.Lent.{Lent}
-use Rattle.sets.specs.Sets.{putAll, noNumbers}
-use Rattle.routes.specs.declared.Enabled.{Enabled}
+use Rattle.roll.specs.Roll.{takenBit, mark, withMarks, Shows}
 
 -- The side that a query is about.
 abbrev pub sideOf : Bool → Side
@@ -24,9 +23,14 @@ sideOf local = cond local localSide ioSide
 unfoldable pub enabledIn : ℕ → List ℕ → List ℕ
 enabledIn n s = each idOf (keep enabled (rows n s))
 
--- How many they are, and as a set.
-abbrev pub gathered : List ℕ → Enabled
-gathered ids = record { count = length ids; set = putAll noNumbers ids }
+-- A roll with IDs put on it as taken, one after the other. (`called` of roll looks for wrong entries; here none can be.)
+unfoldable pub enrolled : List ℕ → List ℕ → List ℕ
+enrolled roll [] = roll
+enrolled roll (x ∷ ids) = enrolled (withMarks (mark takenBit) roll x) ids
+
+-- They are on a roll, and no others.
+abbrev pub OnRoll : List ℕ → List ℕ → Type 0
+OnRoll roll ids = Shows takenBit roll (λ (x : ℕ). among x ids)
 
 -- Those of them that a destination names.
 unfoldable pub named : List ℕ → ℕ → List ℕ
@@ -43,6 +47,6 @@ pairsIn ids p es = joined (pairsFor ids) (keep p es)
 unfoldable pub countIn : List ℕ → (Entry → Bool) → List Entry → ℕ
 countIn ids p es = total (each (λ (e : Entry). length (named ids (destination e))) (keep p es))
 
--- An answer of pairs in a lent room.
-abbrev pub paired : List ℕ → List ℕ → Lent
-paired pairs room = fitted pairs (length pairs / pairSize) room
+-- What a side answers in a lent room, as a number: 0 where the pairs do not fit, else one more than there are.
+unfoldable pub told : List ℕ → List ℕ → ℕ
+told pairs room = cond (tooSmall (length pairs) room) 0 (length pairs / pairSize + 1)

@@ -5,13 +5,13 @@
 // the room as it was. What the answer means in the paper's words is proved in promises.
 //
 // Both are one query over the side. The IDs of the side's enabled APICs are gathered once, as a list for those entries that
-// name all and as a set for those that name one: so the cost is that of the table and of the answer, and not of their
-// product. One pass over the interrupt entries counts the pairs, and a second one writes them where they fit.
+// name all and on a roll for those that name one: so the cost is that of the table and of the answer, and not of their
+// product. One pass over the interrupt entries counts the pairs, and a second one writes them where there are some and they fit. What a side
+// answers goes up as a number, and the enum is made at the top: an enum that is handed through a call is copied there.
 use mps::Examined;
 use mps::Lent;
 use mps::Sections;
 use mps::layout;
-use sets::Numbers;
 ghost use mathlib.Core.Path.{_≡_};
 ghost use mathlib.Core.Bool.{false};
 ghost use Prim.Native.Nat.{_+_, _*_, _≤_};
@@ -24,15 +24,8 @@ ghost use Rattle.mps.specs.Sections.{rows};
 ghost use Rattle.mps.specs.Judge.{tableRefusal};
 ghost use Rattle.mps.specs.Rooms.{fitLeft};
 ghost use Rattle.mps.specs.Routes.{question, asked as isAsked, pair, pairSize, routesOf, routed, routesLeft};
-ghost use Rattle.sets.specs.Sets.{putAll, noNumbers};
 ghost use Rattle.judge.specs.Placed.{Placed};
-ghost use Rattle.routes.specs.Pairs.{sideOf, enabledIn, gathered, named, pairsFor, pairsIn, countIn, paired};
-
-// The enabled APICs of a side: how many, and their IDs as a set.
-struct Enabled {
-    count: usize,
-    set: Numbers,
-}
+ghost use Rattle.routes.specs.Pairs.{sideOf, enabledIn, enrolled, OnRoll, named, pairsFor, pairsIn, countIn, told};
 
 // Interrupt type, bus and IRQ in; the pairs stand in the room from its first byte on.
 pub fn io(t: &[u8], itype: u8, bus: u8, irq: u8, out: &mut [u8]) -> Lent
@@ -83,13 +76,18 @@ fn behind_table(
     if !buses::is_listed(&t[buses..ioapics], bus) {
         return Lent::Refused(24);
     }
-    of_side(t, p, local, itype, bus, irq, out)
+    let told = of_side(t, p, local, itype, bus, irq, out);
+    if told == 0 {
+        return Lent::Refused(19);
+    }
+    Lent::Count(told - 1)
 }
 
-// Apart from 24's tests, since what a side answers asks nothing of them.
-fn of_side(t: &[u8], p: Sections, local: bool, itype: u8, bus: u8, irq: u8, out: &mut [u8]) -> Lent
+// Apart from 24's tests, since what a side answers asks nothing of them. 0 where the pairs do not fit in the room, else one
+// more than there are.
+fn of_side(t: &[u8], p: Sections, local: bool, itype: u8, bus: u8, irq: u8, out: &mut [u8]) -> usize
     requires { ⌜ (tableRefusal (now t) ≡ 0) × (Placed (now t) p) ⌝ }
-    ensures { λ r. ⌜ r ≡ paired (routesOf (question (sideOf local) itype bus irq) (now (t .entry))) (now (out .entry)) ⌝ }
+    ensures { λ r. ⌜ r ≡ told (routesOf (question (sideOf local) itype bus irq) (now (t .entry))) (now (out .entry)) ⌝ }
     ensures { λ _. ⌜ now (out .exit) ≡ fitLeft (routesOf (question (sideOf local) itype bus irq) (now (t .entry))) (now (out .entry)) ⌝ }
 {
     let buses = p.buses;
@@ -119,8 +117,8 @@ fn of_side(t: &[u8], p: Sections, local: bool, itype: u8, bus: u8, irq: u8, out:
     )
 }
 
-// The answer of one side: its APICs, entries of `size` bytes, and its interrupt entries. 256 places hold any IDs of which
-// no two are the same.
+// The same of one side's parts: its APICs, entries of `size` bytes, and its interrupt entries. 256 places hold any IDs of
+// which no two are the same.
 fn answer(
     targets: &[u8],
     size: usize,
@@ -129,72 +127,77 @@ fn answer(
     bus: u8,
     irq: u8,
     out: &mut [u8],
-) -> Lent
+) -> usize
     requires { ⌜ (4 ≤ size) × (twice (enabledIn size (now targets)) ≡ false) × (length (now entries) ≤ 65535) ⌝ }
-    ensures { λ r. ⌜ r ≡ paired (pairsIn (enabledIn size (now (targets .entry))) (isAsked itype bus irq) (rows entrySize (now (entries .entry)))) (now (out .entry)) ⌝ }
+    ensures { λ r. ⌜ r ≡ told (pairsIn (enabledIn size (now (targets .entry))) (isAsked itype bus irq) (rows entrySize (now (entries .entry)))) (now (out .entry)) ⌝ }
     ensures { λ _. ⌜ now (out .exit) ≡ fitLeft (pairsIn (enabledIn size (now (targets .entry))) (isAsked itype bus irq) (rows entrySize (now (entries .entry)))) (now (out .entry)) ⌝ }
 {
+    let mut roll = [0; 256];
     let mut list = [0; 256];
-    let to = gather(&mut list, targets, size);
-    let n = to.count;
-    let set = to.set;
+    let n = gather(&mut roll, &mut list, targets, size);
     let ids = &list[0..n];
-    let pairs = count(entries, itype, bus, irq, ids, set);
-    if out.len() < pairs * layout::PAIR_SIZE {
-        return Lent::Refused(19);
+    let pairs = count(entries, itype, bus, irq, ids, &roll);
+    // With no pairs to write the entries are not gone through again.
+    if pairs == 0 {
+        return 1;
     }
-    write(out, entries, itype, bus, irq, ids, set);
-    Lent::Count(pairs)
+    if out.len() < pairs * layout::PAIR_SIZE {
+        return 0;
+    }
+    write(out, entries, itype, bus, irq, ids, &roll);
+    pairs + 1
 }
 
-// The enabled APICs, of entries of `size` bytes each: their IDs stand in `ids` from its first place on, in table order.
-fn gather(ids: &mut [u8], s: &[u8], size: usize) -> Enabled
-    requires { ⌜ (4 ≤ size) × (length (enabledIn size (now s)) ≤ length (now ids)) ⌝ }
-    ensures { λ r. ⌜ r ≡ gathered (enabledIn size (now (s .entry))) ⌝ }
+// The enabled APICs, of entries of `size` bytes each: they are put on the roll, and their IDs stand in `ids` from its first
+// place on, in table order. Answers how many they are.
+fn gather(roll: &mut [u8; 256], ids: &mut [u8; 256], s: &[u8], size: usize) -> usize
+    requires { ⌜ (4 ≤ size) × (length (enabledIn size (now s)) ≤ 256) ⌝ }
+    ensures { λ r. ⌜ r ≡ length (enabledIn size (now (s .entry))) ⌝ }
+    ensures { λ _. ⌜ now (roll .exit) ≡ enrolled (now (roll .entry)) (enabledIn size (now (s .entry))) ⌝ }
     ensures { λ _. ⌜ now (ids .exit) ≡ sets (now (ids .entry)) 0 (enabledIn size (now (s .entry))) ⌝ }
 {
     let mut count = 0;
-    let mut set = sets::empty();
     let mut at = 0;
     while size <= s.len() - at {
         if s[at + layout::APIC_FLAGS] % 2 == 1 {
             let id = s[at + layout::ENTRY_ID];
+            roll::put(roll, id, roll::TAKEN_MARK);
             ids[count] = id;
-            set = sets::put(set, id);
             count += 1;
         }
         at += size;
     }
-    Enabled { count, set }
+    count
 }
 
-// Whether the entry at a place is asked about.
+// Whether the entry at a place is asked about. The IRQ first: by it alone most entries are known not to be.
 fn asked(s: &[u8], at: usize, itype: u8, bus: u8, irq: u8) -> bool
     requires { ⌜ at + entrySize ≤ length (now s) ⌝ }
     ensures { λ r. ⌜ r ≡ isAsked itype bus irq (take entrySize (drop at (now (s .entry)))) ⌝ }
 {
-    (s[at + layout::INTERRUPT_TYPE] == itype)
-        & (s[at + layout::SOURCE_BUS] == bus)
-        & (s[at + layout::SOURCE_IRQ] == irq)
+    if s[at + layout::SOURCE_IRQ] != irq {
+        return false;
+    }
+    (s[at + layout::INTERRUPT_TYPE] == itype) & (s[at + layout::SOURCE_BUS] == bus)
 }
 
 // How many APICs a destination names.
-fn names(ids: &[u8], set: Numbers, to: u8) -> usize
-    requires { ⌜ set ≡ putAll noNumbers (now ids) ⌝ }
+fn names(ids: &[u8], roll: &[u8; 256], to: u8) -> usize
+    requires { ⌜ OnRoll (now roll) (now ids) ⌝ }
     ensures { λ r. ⌜ r ≡ length (named (now (ids .entry)) to) ⌝ }
 {
     if to == layout::EVERYONE {
         return ids.len();
     }
-    if sets::contains(set, to) {
+    if roll::has(roll, to, roll::TAKEN) {
         return 1;
     }
     0
 }
 
 // How many pairs there are.
-fn count(s: &[u8], itype: u8, bus: u8, irq: u8, ids: &[u8], set: Numbers) -> usize
-    requires { ⌜ (set ≡ putAll noNumbers (now ids)) × (length (now ids) ≤ 256) × (length (now s) ≤ 65535) ⌝ }
+fn count(s: &[u8], itype: u8, bus: u8, irq: u8, ids: &[u8], roll: &[u8; 256]) -> usize
+    requires { ⌜ (OnRoll (now roll) (now ids)) × (length (now ids) ≤ 256) × (length (now s) ≤ 65535) ⌝ }
     ensures { λ r. ⌜ r ≡ countIn (now (ids .entry)) (isAsked itype bus irq) (rows entrySize (now (s .entry))) ⌝ }
     ensures { λ r. ⌜ r ≤ 32 * length (now (s .entry)) ⌝ }
 {
@@ -202,7 +205,7 @@ fn count(s: &[u8], itype: u8, bus: u8, irq: u8, ids: &[u8], set: Numbers) -> usi
     let mut at = 0;
     while layout::ENTRY_SIZE <= s.len() - at {
         if asked(s, at, itype, bus, irq) {
-            pairs += names(ids, set, s[at + layout::DESTINATION]);
+            pairs += names(ids, roll, s[at + layout::DESTINATION]);
         }
         at += layout::ENTRY_SIZE;
     }
@@ -235,8 +238,8 @@ fn put_all(out: &mut [u8], at: usize, entry: &[u8], ids: &[u8]) -> usize
 }
 
 // The pairs of one entry; answers the place behind them.
-fn put_named(out: &mut [u8], at: usize, entry: &[u8], ids: &[u8], set: Numbers) -> usize
-    requires { ⌜ (set ≡ putAll noNumbers (now ids)) × (length (now entry) ≡ entrySize) ⌝ }
+fn put_named(out: &mut [u8], at: usize, entry: &[u8], ids: &[u8], roll: &[u8; 256]) -> usize
+    requires { ⌜ (OnRoll (now roll) (now ids)) × (length (now entry) ≡ entrySize) ⌝ }
     requires { ⌜ at + length (pairsFor (now ids) (now entry)) ≤ length (now out) ⌝ }
     ensures { λ r. ⌜ r ≡ at + length (pairsFor (now (ids .entry)) (now (entry .entry))) ⌝ }
     ensures { λ _. ⌜ now (out .exit) ≡ sets (now (out .entry)) at (pairsFor (now (ids .entry)) (now (entry .entry))) ⌝ }
@@ -245,7 +248,7 @@ fn put_named(out: &mut [u8], at: usize, entry: &[u8], ids: &[u8], set: Numbers) 
     if to == layout::EVERYONE {
         return put_all(out, at, entry, ids);
     }
-    if sets::contains(set, to) {
+    if roll::has(roll, to, roll::TAKEN) {
         put_pair(out, at, entry, to);
         return at + layout::PAIR_SIZE;
     }
@@ -253,8 +256,8 @@ fn put_named(out: &mut [u8], at: usize, entry: &[u8], ids: &[u8], set: Numbers) 
 }
 
 // All pairs, from the room's first byte on.
-fn write(out: &mut [u8], s: &[u8], itype: u8, bus: u8, irq: u8, ids: &[u8], set: Numbers)
-    requires { ⌜ set ≡ putAll noNumbers (now ids) ⌝ }
+fn write(out: &mut [u8], s: &[u8], itype: u8, bus: u8, irq: u8, ids: &[u8], roll: &[u8; 256])
+    requires { ⌜ OnRoll (now roll) (now ids) ⌝ }
     requires { ⌜ length (pairsIn (now ids) (isAsked itype bus irq) (rows entrySize (now s))) ≤ length (now out) ⌝ }
     ensures { λ _. ⌜ now (out .exit) ≡ sets (now (out .entry)) 0 (pairsIn (now (ids .entry)) (isAsked itype bus irq) (rows entrySize (now (s .entry)))) ⌝ }
 {
@@ -262,7 +265,7 @@ fn write(out: &mut [u8], s: &[u8], itype: u8, bus: u8, irq: u8, ids: &[u8], set:
     let mut at = 0;
     while layout::ENTRY_SIZE <= s.len() - at {
         if asked(s, at, itype, bus, irq) {
-            place = put_named(out, place, &s[at..at + layout::ENTRY_SIZE], ids, set);
+            place = put_named(out, place, &s[at..at + layout::ENTRY_SIZE], ids, roll);
         }
         at += layout::ENTRY_SIZE;
     }

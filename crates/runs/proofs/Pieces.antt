@@ -26,6 +26,13 @@ size-two k = cases (eqb k 0)
     cases true = omega arith
     cases false = omega arith
 
+pub size-most : (k : ℕ) → sizeOf k ≤ 20
+size-most k = cases (eqb k 0)
+  where
+    cases : (t : Bool) → cond t 20 8 ≤ 20
+    cases true = omega arith
+    cases false = omega arith
+
 pub size-some : (k : ℕ) → 0 < sizeOf k
 size-some k = omega (arith, size-two k)
 

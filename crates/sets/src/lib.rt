@@ -1,4 +1,4 @@
-// Sets of the numbers 0 to 255, for finding duplicates in one pass.
+// Sets of the numbers 0 to 255, for the used numbers of request 2. Nothing above uses them yet.
 //
 // Promised: `empty` is the set `noNumbers`, `put` makes `withNumber`, `contains` answers `holds`, each
 // of any set and any number, in a fixed number of steps. The definitions stand in specs/Sets.antt;

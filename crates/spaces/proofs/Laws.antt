@@ -1,5 +1,4 @@
--- Laws of `wrongMappingIn`, `wrongHierarchyIn` and `wrongModifierIn`: at a place of a slice, and that they are the rules of mps. Assumes
--- nothing.
+-- Laws of `wrongMappingIn` and `wrongModifierIn`: at a place of a slice, and that they are the rules of mps. Assumes nothing.
 use Prim.Native.Nat.{ℕ, _+_, _-_, _%_, _^_, _<_}
 use mathlib.Core.Path.{_≡_}
 use mathlib.Core.Bool.{Bool, true, not, _||_, _&&_}
@@ -8,16 +7,15 @@ use native.Mathlib.Omega.{arith}
 use lib.Dec.{ltb}
 use lib.ListN.{getD, take, drop}
 use borrow.Author.Tests.{ltb-true, lt-ltb}
-use Rattle.mps.specs.Words.{part}
+use Rattle.mps.specs.Words.{among, part}
 use Rattle.mps.specs.Numbers.{le}
-use Rattle.mps.specs.Layout.{Entry, spaceEnd, busType, extendedBus, parentBus}
-use Rattle.mps.specs.Rules.{idsOf, isListed, wrongMapping, wrongHierarchy, wrongModifier}
+use Rattle.mps.specs.Layout.{Entry, spaceEnd, busType, extendedBus}
+use Rattle.mps.specs.Rules.{idsOf, isListed, wrongMapping, wrongModifier}
 use Rattle.laws.proofs.Tests.{and-parts, same-test}
 use Rattle.laws.proofs.Rows.{row-byte}
-use Rattle.sets.specs.declared.Numbers.{Numbers}
-use Rattle.sets.specs.Sets.{putAll, holds, noNumbers}
-use Rattle.sets.proofs.Laws.{holds-list}
-use Rattle.spaces.specs.Spaces.{wrongMappingIn, wrongHierarchyIn, wrongModifierIn}
+use Rattle.laws.proofs.Small.{Bytes}
+use Rattle.roll.specs.Roll.{marked, busBit, Shows}
+use Rattle.spaces.specs.Spaces.{wrongMappingIn, wrongModifierIn}
 
 -- ---- At a place of a slice
 
@@ -37,7 +35,7 @@ past-end-is base size end h k e = same-test (ltb end base && ltb 0 end) (ltb spa
         let o = ltb-true spaceEnd (base + size) t in
         rw (lt-ltb end base (omega (arith, e, o, h, k)), lt-ltb 0 end (omega (arith, e, o, h, k)))
 
-module _ (buses : Numbers) (s : List ℕ) (at : ℕ) {b : Bool} (e : b ≡ holds buses (getD s (at + 2) 0)) where
+module _ (roll : List ℕ) (s : List ℕ) (at : ℕ) {b : Bool} (e : b ≡ marked 3 roll (getD s (at + 2) 0)) where
   -- The row that is cut out of the slice is n bytes long.
   width : (n : ℕ) → at + n - at ≡ n
   width n = omega arith
@@ -45,37 +43,24 @@ module _ (buses : Numbers) (s : List ℕ) (at : ℕ) {b : Bool} (e : b ≡ holds
   pub map-at :
       {x y : ℕ} {p : Bool}
       → x ≡ le 8 (part at (at + 20) s) 4 → y ≡ le 8 (part at (at + 20) s) 12 → p ≡ ltb spaceEnd (x + y)
-      → (not b || ltb 2 (getD s (at + 3) 0) || p) ≡ wrongMappingIn buses (take 20 (drop at s))
+      → (not b || ltb 2 (getD s (at + 3) 0) || p) ≡ wrongMappingIn roll (take 20 (drop at s))
   unfolding wrongMappingIn
   map-at f g h =
       rw (e, h, f, g, width 20, row-byte 20 s at 2 (omega arith), row-byte 20 s at 3 (omega arith))
 
-  pub link-at :
-      {p : Bool} → p ≡ holds buses (getD s (at + 4) 0) → (not b || not p) ≡ wrongHierarchyIn buses (take 8 (drop at s))
-  unfolding wrongHierarchyIn
-  link-at f = rw (e, f, row-byte 8 s at 2 (omega arith), row-byte 8 s at 4 (omega arith))
-
   pub mod-at :
-      {l : ℕ} → l ≡ le 4 (part at (at + 8) s) 4 → (not b || ltb 1 l) ≡ wrongModifierIn buses (take 8 (drop at s))
+      {l : ℕ} → l ≡ le 4 (part at (at + 8) s) 4 → (not b || ltb 1 l) ≡ wrongModifierIn roll (take 8 (drop at s))
   unfolding wrongModifierIn
   mod-at f = rw (e, f, width 8, row-byte 8 s at 2 (omega arith))
 
--- ---- The rules of mps, of an entry whose bytes are bytes and the set of the listed buses
+-- ---- The rules of mps, of an entry whose bytes are bytes, where the roll has the listed buses
 
-module _ (es : List Entry) (e : Entry) (bytes : (i : ℕ) → getD e i 0 < 256) where
-  -- Its bus is in the set where it is listed.
-  bus-listed : holds (putAll noNumbers (idsOf busType es)) (extendedBus e) ≡ isListed es (extendedBus e)
-  unfolding isListed
-  bus-listed = holds-list (idsOf busType es) (extendedBus e) (bytes 2)
+module _ (es : List Entry) (roll : List ℕ) (bus : Shows busBit roll (λ (y : ℕ). among y (idsOf busType es)))
+    (e : Entry) (bytes : Bytes e) where
+  pub wrong-mapping-in : wrongMappingIn roll e ≡ wrongMapping es e
+  unfolding wrongMappingIn wrongMapping isListed
+  wrong-mapping-in = rw (bus (extendedBus e) (bytes 2))
 
-  pub wrong-mapping-in : wrongMappingIn (putAll noNumbers (idsOf busType es)) e ≡ wrongMapping es e
-  unfolding wrongMappingIn wrongMapping
-  wrong-mapping-in = rw bus-listed
-
-  pub wrong-hierarchy-in : wrongHierarchyIn (putAll noNumbers (idsOf busType es)) e ≡ wrongHierarchy es e
-  unfolding wrongHierarchyIn wrongHierarchy isListed
-  wrong-hierarchy-in = rw (bus-listed, holds-list (idsOf busType es) (parentBus e) (bytes 4))
-
-  pub wrong-modifier-in : wrongModifierIn (putAll noNumbers (idsOf busType es)) e ≡ wrongModifier es e
-  unfolding wrongModifierIn wrongModifier
-  wrong-modifier-in = rw bus-listed
+  pub wrong-modifier-in : wrongModifierIn roll e ≡ wrongModifier es e
+  unfolding wrongModifierIn wrongModifier isListed
+  wrong-modifier-in = rw (bus (extendedBus e) (bytes 2))

@@ -1,14 +1,21 @@
 -- Laws of the two tables. A rule of a whole table is one test that antt computes. Assumes nothing.
-use Prim.Native.Nat.{ℕ, zero, suc, _+_, _*_, _%_, _<_}
+use Prim.Native.Nat.{ℕ, zero, suc, _+_, _*_, _%_, _<_, _≤_}
 use mathlib.Core.Path.{_≡_, refl, ap, sym, _∙_}
-use mathlib.Core.Bool.{Bool, true, false}
+use mathlib.Core.Bool.{Bool, true, false, true≢false}
 use mathlib.Core.List.{List, [], _∷_}
 use native.Mathlib.Omega.{arith}
 use native.Mathlib.Nat.{zero-add, add-zero, add-suc, suc-add, not-suc-le-zero, le-of-suc-le-suc, mod-mod}
-use lib.ListN.{length, getD, getD-replicate, List·getD-map}
-use Rattle.mps.specs.Words.{text, bit, flag}
-use Rattle.mps.specs.Buses.{busNames}
+use lib.ListN.{length, getD, take, drop, getD-replicate, List·getD-map}
+use lib.Dec.{eqb}
+use borrow.Author.Tests.{eqb-true}
+use Rattle.mps.specs.Words.{text, bit, flag, same, any, every}
+use Rattle.mps.specs.Numbers.{le, bytes}
+use Rattle.mps.specs.Buses.{busNames, isBusName}
 use Rattle.mps.specs.Ranges.{isa, vga, rangesAt, printedIsa, printedVga}
+use Rattle.laws.proofs.Tests.{and-parts, either}
+use Rattle.laws.proofs.Small.{Bytes}
+use Rattle.numbers.proofs.Laws.{bytes-le}
+use Rattle.tables.specs.Quick.{quickNames, quickName}
 
 -- ---- values: a function written out as a table
 
@@ -38,6 +45,22 @@ module _ {A : Type 0} where
 pub names-six : (k : ℕ) → k < 18 → length (getD busNames k []) ≡ 6
 unfolding busNames text
 names-six k h = sym (List·getD-map length busNames k []) ∙ getD-replicate 18 k 6 0 h
+
+-- ---- quickName
+
+-- Six bytes that have the number of a quick name are one of the names.
+pub quick-is-name :
+    (s : List ℕ) (at : ℕ) → at + 6 ≤ length s → Bytes s → quickName (le 6 s at) ≡ true → isBusName (take 6 (drop at s)) ≡ true
+unfolding quickName quickNames isBusName busNames text le bytes any every same
+quick-is-name s at h b q = rw (← bytes-le 6 s at h b) (found (le 6 s at) quickNames refl q)
+  where
+    found :
+        (n : ℕ) (names : List (List ℕ)) → every (λ (name : List ℕ). isBusName (bytes 6 (le 6 name 0))) names ≡ true
+        → any (λ (name : List ℕ). eqb n (le 6 name 0)) names ≡ true → isBusName (bytes 6 n) ≡ true
+    found n [] a q = absurd (true≢false (sym q))
+    found n (name ∷ names) a q =
+        let p = and-parts (isBusName (bytes 6 (le 6 name 0))) _ a in
+        either (eqb n (le 6 name 0)) _ q (λ e. rw (eqb-true n (le 6 name 0) e) (p .0)) (found n names (p .1))
 
 -- ---- isa, vga
 

@@ -1,22 +1,20 @@
--- Laws of text in a room: how long each word is, and how it is stored. Assumes nothing.
-use Prim.Native.Nat.{ℕ, zero, suc, _+_, _-_, _/_, _≤_, _<_}
-use mathlib.Core.Path.{_≡_, refl, ap, sym, _∙_}
+-- How long the words of a line are. Assumes nothing.
+use Prim.Native.Nat.{ℕ, zero, suc, _+_, _/_, _≤_, _<_}
+use mathlib.Core.Path.{_≡_, refl}
 use mathlib.Core.Bool.{Bool, true, false, cond}
-use mathlib.Core.List.{List, [], _∷_, _++_}
+use mathlib.Core.List.{List, [], _∷_}
 use native.Mathlib.Omega.{arith}
 use native.Mathlib.Numerals.{add-one}
-use native.Mathlib.Nat.{add-assoc}
-use lib.ListN.{length, getD, set, drop, drop-of-length-le, length-append}
-use lib.Seq.{drop-cons, sets, set-set}
+use lib.ListN.{length, getD, drop, drop-of-length-le, length-append}
+use lib.Seq.{drop-cons}
 use lib.Dec.{ltb, leb}
-use borrow.Author.Tests.{ltb-true, ltb-false, leb-true, le-leb, lt-leb, eq-eqb, ne-eqb}
+use borrow.Author.Tests.{ltb-true, ltb-false, le-leb, lt-leb, eq-eqb, ne-eqb}
 use Rattle.mps.specs.Words.{keep, flag, each}
 use Rattle.mps.specs.Sums.{total}
 use Rattle.mps.specs.Listing.{digits, decimalDigit, hexDigit, decimalWidth, decimal, hex, notSpace, unpadded, line}
-use Rattle.laws.proofs.Tests.{whether, same-test}
+use Rattle.laws.proofs.Tests.{whether}
 use Rattle.laws.proofs.Lists.{keep-in, keep-out}
-use Rattle.slices.proofs.Laws.{sets-next}
-use Rattle.text.specs.Text.{ended, stored}
+use Rattle.text.specs.Text.{ended}
 
 -- ---- How long a word is
 
@@ -70,36 +68,6 @@ unfolding line total each
 length-line w [] = omega (arith, length-append w (10 ∷ []))
 length-line w (n ∷ ws) = omega (arith, length-append w (32 ∷ line n ws), length-line n ws)
 
--- ---- A word is stored where it has room
-
-module _ (n : ℕ) (t : List ℕ) (at : ℕ) where
-  -- What the test tells.
-  pub has-fits : {r : Bool} → r ≡ leb (at + n) (length t) → r ≡ true → at + n ≤ length t
-  has-fits e h = leb-true (at + n) (length t) (sym e ∙ h)
-
-  module _ (w : List ℕ) where
-    pub stored-fits : at + n ≤ length t → stored n t at w ≡ sets t at w
-    unfolding stored
-    stored-fits h = rw (le-leb (at + n) (length t) h)
-
-    -- The two ways out: what was stored, or nothing was.
-    pub stored-in : {r : Bool} {u : List ℕ} → r ≡ leb (at + n) (length t) → r ≡ true → u ≡ sets t at w → u ≡ stored n t at w
-    stored-in e h p = p ∙ sym (stored-fits (has-fits e h))
-
-    pub stored-out : {r : Bool} → r ≡ leb (at + n) (length t) → r ≡ false → t ≡ stored n t at w
-    unfolding stored
-    stored-out e h = rw (← e, h)
-
--- Whether it has, from the room's length less n.
-pub has-room : (at n l : ℕ) → n ≤ l → leb at (l - n) ≡ leb (at + n) l
-has-room at n l h =
-    same-test (leb at (l - n)) (leb (at + n) l)
-    (λ e. let k = leb-true at (l - n) e in le-leb (at + n) l (omega arith))
-    (λ e. let k = leb-true (at + n) l e in le-leb at (l - n) (omega arith))
-
-pub has-none : (at n l : ℕ) → l < n → false ≡ leb (at + n) l
-has-none at n l h = sym (lt-leb (at + n) l (omega arith))
-
 -- ---- Names, from place i on: nothing is left, a byte of the name stands there, or padding
 
 module _ (s : List ℕ) (i : ℕ) where
@@ -116,36 +84,6 @@ module _ (s : List ℕ) (i : ℕ) where
   unfolding unpadded
   unpadded-space h e =
       rw (add-one i, drop-cons s i 0 h) (keep-out notSpace (getD s i 0) (drop (suc i) s) (rw (eq-eqb _ _ e)))
-
--- A byte that a word and its end are then stored over leaves nothing.
-sets-over : (t w : List ℕ) (at v last : ℕ) → sets (set t at v) at (ended w last) ≡ sets t at (ended w last)
-unfolding ended
-sets-over t [] at v last = set-set t at v last
-sets-over t (x ∷ w) at v last = ap (λ (l : List ℕ). sets l (suc at) (w ++ (last ∷ []))) (set-set t at v x)
-
-module _ (t s : List ℕ) (at i last : ℕ) where
-  pub name-done : length s ≤ i → sets t at (ended (unpadded (drop i s)) last) ≡ set t at last
-  unfolding ended
-  name-done h = rw (unpadded-done s i h)
-
-  pub name-byte :
-      i < length s → (getD s i 0 ≡ 32 → ⊥)
-      → sets t at (ended (unpadded (drop i s)) last)
-      ≡ sets (set t at (getD s i 0)) (at + 1) (ended (unpadded (drop (i + 1) s)) last)
-  unfolding ended
-  name-byte h e = rw (unpadded-byte s i h e, add-one at)
-
-  pub name-space :
-      (v : ℕ) → i < length s → getD s i 0 ≡ 32
-      → sets t at (ended (unpadded (drop i s)) last) ≡ sets (set t at v) at (ended (unpadded (drop (i + 1) s)) last)
-  name-space v h e = rw (unpadded-space s i h e) (sym (sets-over t (unpadded (drop (i + 1) s)) at v last))
-
--- ---- Words, from byte i on
-
-pub word-next :
-    (t w : List ℕ) (at i : ℕ) → i < length w
-    → sets t (at + i) (drop i w) ≡ sets (set t (at + i) (getD w i 0)) (at + (i + 1)) (drop (i + 1) w)
-word-next t w at i h = rw (← add-assoc at i 1) (sets-next t w (at + i) i h)
 
 -- ---- The width of a number
 

@@ -1,42 +1,36 @@
--- The loop's invariant: the regions left answer as all of them do.
+-- The loop's invariant: the rows left answer as all of them do.
 use Prim.Native.Nat.{_-_, _≤_}
-use mathlib.Core.Path.{_≡_, refl, sym, _∙_}
+use mathlib.Core.Path.{_≡_, sym, _∙_}
 use native.Mathlib.Omega.{arith}
-use lib.ListN.{take, drop}
-use Rattle.contents.specs.Steps.{clashAny}
-use Rattle.contents.proofs.Pairs.{clash-end, clash-hit, clash-miss}
+use Rattle.mps.specs.Words.{any}
+use Rattle.contents.specs.Steps.{clashing, rowsLeft}
+use Rattle.contents.proofs.Listed.{clash-end, clash-hit, clash-miss}
 use borrow.Author.Needs.{needs}
 use Rattle.contents.proofs.clashes.Statement.{statement}
 use Rattle.contents.proofs.clashes.Tie as tie
 
 abbrev Inv-loop : tie.InvT-loop
-Inv-loop rs count i₀ i = (clashAny (drop i (take count rs)) ≡ clashAny (take count rs)) × (i ≤ count)
+Inv-loop d count i r j₀ j =
+    (any (clashing r) (rowsLeft d count 0 j) ≡ any (clashing r) (rowsLeft d count 0 i))
+    × (j ≤ count)
 
 abbrev μ-loop : tie.MeasureT-loop
-μ-loop rs count i₀ i = count - i
-
-loop-holds : tie.Need-loop-holds Inv-loop μ-loop
-loop-holds c = (refl, omega arith)
+μ-loop d count i r j₀ j = count - j
 
 returns : tie.Need-returns Inv-loop μ-loop
 returns c =
-    let a = c .before .before .before .before .args in
-    let l = c .before .before .before .loop in
-    let hit = sym (c .before .clashes-at .ensures) ∙ c .if1 .taken in
-    clash-hit (a .rs) (a .count) (l .i) (l .inv .0) (omega arith) (omega arith) hit
+    let l = c .before .before .before .before .before .loop in
+    let row = c .before .before .row .ensures in
+    clash-hit _ _ _ (l .j) (l .inv .0) (omega arith) row (sym (c .before .clash .ensures) ∙ c .if1 .taken)
 
 loop-again : tie.Need-loop-again Inv-loop μ-loop
 loop-again c =
-    let a = c .before .before .before .before .args in
-    let l = c .before .before .before .loop in
-    let miss = sym (c .before .clashes-at .ensures) ∙ c .if1 .left in
-    (clash-miss (a .rs) (a .count) (l .i) (l .inv .0) (omega arith) (omega arith) miss, omega arith)
+    let l = c .before .before .before .before .before .loop in
+    let row = c .before .before .row .ensures in
+    (clash-miss _ _ _ (l .j) (l .inv .0) (omega arith) row (sym (c .before .clash .ensures) ∙ c .if1 .left), omega arith)
 
 returns-2 : tie.Need-returns-2 Inv-loop μ-loop
-returns-2 c =
-    let a = c .before .before .args in
-    let l = c .before .loop in
-    clash-end (a .rs) (a .count) (l .i) (l .inv .0) (omega arith)
+returns-2 c = clash-end _ _ _ (c .before .loop .j) (c .before .loop .inv .0) (omega arith)
 
 pub clashes-spec : {M : Type 1} → statement M
 clashes-spec =
@@ -44,8 +38,8 @@ clashes-spec =
     (tie.spec
     Inv-loop
     μ-loop
-    loop-holds
-    (λ c κs. search needs)
+    (λ c. search needs) (λ c. search needs) (λ c. search needs) (λ c. search needs) (λ c. search needs)
+    (λ c. search needs) (λ c. search needs) (λ c κs. search needs) (λ c κs. search needs)
     returns
     (λ c. search needs) (λ c. search needs)
     loop-again

@@ -1,44 +1,56 @@
--- The loop's invariant: with the rows left, what is read is what all rows are.
-use Prim.Native.Nat.{_-_}
+-- The loop's invariant: with the rows left, what is found is what all rows say.
+use Prim.Native.Nat.{_+_, _-_, _*_, _≤_}
+use mathlib.Core.Path.{_≡_, sym, _∙_}
 use native.Mathlib.Omega.{arith}
-use Rattle.contents.proofs.Bodies.{Read, read-start, read-next, read-done}
+use borrow.Author.Tests.{not-true, not-false}
+use Rattle.mps.specs.Layout.{rowLength}
+use Rattle.mps.specs.Dump.{contentsEnd, regions}
+use Rattle.contents.specs.Steps.{rowsLeft, fitted}
+use Rattle.contents.proofs.Listed.{rows-all, fit-end, fit-unsound, fit-clash, fit-next}
 use borrow.Author.Needs.{needs}
 use Rattle.contents.proofs.rows.Statement.{statement}
 use Rattle.contents.proofs.rows.Tie as tie
 
 abbrev Inv-loop : tie.InvT-loop
-Inv-loop d count all₀ at₀ end₀ i₀ all at end i = Read d count all at end i
+Inv-loop d count end₀ i₀ end i =
+    (fitted end (rowsLeft d count end i) ≡ fitted (contentsEnd d) (regions d))
+    × (i ≤ count)
+    × (end ≤ 1 + rowLength * count + i * 4294967296)
 
 abbrev μ-loop : tie.MeasureT-loop
-μ-loop d count all₀ at₀ end₀ i₀ all at end i = count - i
+μ-loop d count end₀ i₀ end i = count - i
 
 loop-holds : tie.Need-loop-holds Inv-loop μ-loop
-loop-holds c = read-start _ _ (c .before .pre .0) (omega arith)
+loop-holds c =
+    let given = c .before .pre .1 .0 in
+    (rw (rows-all _ _ given, given), omega arith, omega arith)
 
-add-le32 : tie.Need-add-le32 Inv-loop μ-loop
-add-le32 c = omega (arith, c .before .loop .inv .place)
+returns : tie.Need-returns Inv-loop μ-loop
+returns c =
+    let l = c .before .before .before .before .before .loop in
+    let row = c .before .before .row .ensures in
+    let broken = sym (c .before .sound-region .ensures) ∙ not-true _ (c .if1 .taken) in
+    fit-unsound _ _ (l .end) (l .i) (l .inv .0) (omega arith) row broken
 
-add-byte : tie.Need-add-byte Inv-loop μ-loop
-add-byte c = omega (arith, c .before .before .loop .inv .place)
-
-add-le32-2 : tie.Need-add-le32-2 Inv-loop μ-loop
-add-le32-2 c = omega (arith, c .before .before .before .loop .inv .place)
-
-add-end-2 : tie.Need-add-end-2 Inv-loop μ-loop
-add-end-2 c = omega (arith, c .before .before .before .before .before .loop .inv .below)
-
-add-at : tie.Need-add-at Inv-loop μ-loop
-add-at c = omega (arith, c .before .before .before .before .before .loop .inv .place)
+returns-2 : tie.Need-returns-2 Inv-loop μ-loop
+returns-2 c =
+    let l = c .before .before .before .before .before .before .before .loop in
+    let row = c .before .before .before .before .row .ensures in
+    let kept = sym (c .before .before .before .sound-region .ensures) ∙ not-false _ (c .before .before .if1 .left) in
+    fit-clash _ _ (l .end) (l .i) (l .inv .0) (omega arith) row kept (sym (c .before .clashes .ensures) ∙ c .if2 .taken)
 
 loop-again : tie.Need-loop-again Inv-loop μ-loop
 loop-again c =
-    let l = c .before .before .before .before .before .loop in
-    read-next _ _ _ _ _ _ (l .inv) _ _ _ _
-    (c .before .before .byte .ensures) (c .before .le322 .ensures) (c .before .before .before .le32 .ensures)
-    (c .wide .ensures .0) (c .wide .ensures .1) (omega arith)
+    let l = c .before .before .before .before .before .before .before .before .loop in
+    let row = c .before .before .before .before .before .row .ensures in
+    let kept = sym (c .before .before .before .before .sound-region .ensures) ∙ not-false _ (c .before .before .before .if1 .left) in
+    let apart = sym (c .before .before .clashes .ensures) ∙ c .before .if2 .left in
+    (fit-next _ _ (l .end) (l .i) (l .inv .0) (omega arith) row kept apart, omega arith, omega arith)
 
-returns : tie.Need-returns Inv-loop μ-loop
-returns c = read-done _ _ _ _ _ _ (c .before .loop .inv) (omega arith)
+returns-3 : tie.Need-returns-3 Inv-loop μ-loop
+returns-3 c =
+    let l = c .before .loop in
+    fit-end _ _ (l .end) (l .i) (l .inv .0) (omega arith)
 
 pub rows-spec : {M : Type 1} → statement M
 rows-spec =
@@ -48,14 +60,11 @@ rows-spec =
     μ-loop
     (λ c. search needs) (λ c. search needs)
     loop-holds
-    add-le32
-    (λ c κs. search needs)
-    add-byte
-    (λ c κs. search needs)
-    add-le32-2
-    (λ c κs. search needs) (λ c. search needs) (λ c. search needs) (λ c κs. search needs)
-    add-end-2
-    add-at
-    (λ c. search needs) (λ c. search needs)
+    (λ c. search needs) (λ c. search needs) (λ c. search needs) (λ c. search needs) (λ c. search needs)
+    (λ c. search needs) (λ c κs. search needs) (λ c κs. search needs)
+    returns
+    (λ c. search needs) (λ c κs. search needs)
+    returns-2
+    (λ c. search needs) (λ c. search needs) (λ c. search needs) (λ c. search needs)
     loop-again
-    returns)
+    returns-3)

@@ -1,5 +1,5 @@
 -- The loop looks for a wrong entry: `Seeks`, with `seeks-stop`, `seeks-next` and `seeks-done`.
-use Prim.Native.Nat.{_-_}
+use Prim.Native.Nat.{_-_, _%_}
 use mathlib.Core.Path.{refl}
 use native.Mathlib.Omega.{arith}
 use lib.ListN.{length}
@@ -10,10 +10,10 @@ use Rattle.interrupts.proofs.wrong.Statement.{statement}
 use Rattle.interrupts.proofs.wrong.Tie as tie
 
 abbrev Inv-loop : tie.InvT-loop
-Inv-loop s buses targets most at₀ at = Seeks (wrongInterruptIn buses targets most) 8 s at
+Inv-loop s roll k most at₀ at = Seeks (wrongInterruptIn roll (k % 8) most) 8 s at
 
 abbrev μ-loop : tie.MeasureT-loop
-μ-loop s buses targets most at₀ at = length s - at
+μ-loop s roll k most at₀ at = length s - at
 
 loop-holds : tie.Need-loop-holds Inv-loop μ-loop
 loop-holds c = (refl, omega arith)

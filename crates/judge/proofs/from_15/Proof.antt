@@ -2,37 +2,40 @@
 use mathlib.Core.Path.{_∙_}
 use native.Mathlib.Omega.{arith}
 use borrow.Author.Needs.{needs}
-use Rattle.judge.proofs.Ways.{by-bus, bus-set, past-15}
+use Rattle.judge.proofs.Ways.{by-bus, past-15, roll-15}
 use Rattle.judge.proofs.from_15.Statement.{statement}
 use Rattle.judge.proofs.from_15.Tie as tie
 
-sub-list : tie.Need-sub-list
-sub-list c = omega arith
+sub-wrong : tie.Need-sub-wrong
+sub-wrong c = omega arith
 
-part-list-start : tie.Need-part-list-start
-part-list-start c = omega arith
+part-wrong-start : tie.Need-part-wrong-start
+part-wrong-start c = omega arith
 
-part-list-end : tie.Need-part-list-end
-part-list-end c = omega arith
+part-wrong-end : tie.Need-part-wrong-end
+part-wrong-end c = omega arith
 
 returns : tie.Need-returns
-returns c = by-bus (c .before .before .before .before .pre .0) (c .before .list .ensures) (c .if1 .taken)
+returns c = let h = c .before .before .before .before .before .pre in by-bus (h .0) (h .1) (c .before .wrong .ensures .0) (c .if1 .taken)
 
 from-16-requires : tie.Need-from-16-requires
 from-16-requires c κs =
-    let h = c .before .before .before .before .pre in
-    (h .0, (bus-set (h .0) (c .before .list .ensures) (c .if1 .left), h .1 .0, h .1 .1))
+    let h = c .before .before .before .before .before .before .pre in
+    let w = c .before .before .wrong .ensures in
+    (h .0, roll-15 (h .0) (h .1) (w .0) (c .before .if1 .left) (w .1))
 
 returns-2 : tie.Need-returns-2
-returns-2 c = c .from-16 .ensures ∙ past-15 (c .before .before .before .before .before .pre .0) (c .before .before .list .ensures) (c .before .if1 .left)
+returns-2 c =
+    let h = c .before .before .before .before .before .before .before .pre in
+    c .from-16 .ensures ∙ past-15 (h .0) (h .1) (c .before .before .before .wrong .ensures .0) (c .before .before .if1 .left)
 
 pub from-15-spec : {M : Type 1} → statement M
 from-15-spec =
     tie.close
     (tie.spec
-    sub-list
-    part-list-start
-    part-list-end
+    sub-wrong
+    part-wrong-start
+    part-wrong-end
     (λ c κs. search needs)
     returns
     from-16-requires

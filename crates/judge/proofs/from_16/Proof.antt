@@ -2,49 +2,42 @@
 use mathlib.Core.Path.{_∙_}
 use native.Mathlib.Omega.{arith}
 use borrow.Author.Needs.{needs}
-use Rattle.judge.proofs.Ways.{by-claim, by-address, apic-ids, past-16}
+use Rattle.judge.proofs.Ways.{by-apic, past-16, roll-16}
 use Rattle.judge.proofs.from_16.Statement.{statement}
 use Rattle.judge.proofs.from_16.Tie as tie
 
-sub-entries : tie.Need-sub-entries
-sub-entries c = omega arith
+sub-wrong-io-apics : tie.Need-sub-wrong-io-apics
+sub-wrong-io-apics c = omega arith
 
-part-entries-start : tie.Need-part-entries-start
-part-entries-start c = omega arith
+part-wrong-io-apics-start : tie.Need-part-wrong-io-apics-start
+part-wrong-io-apics-start c = omega arith
 
-part-entries-end : tie.Need-part-entries-end
-part-entries-end c = omega arith
+part-wrong-io-apics-end : tie.Need-part-wrong-io-apics-end
+part-wrong-io-apics-end c = omega arith
 
 returns : tie.Need-returns
-returns c =
-    let h = c .before .before .before .before .pre in
-    by-claim (h .0) (h .1 .2) (c .before .claim .ensures) (c .if1 .taken)
-
-returns-2 : tie.Need-returns-2
-returns-2 c =
-    let h = c .before .before .before .before .before .before .pre in
-    by-address (h .0) (h .1 .2) (c .before .before .before .claim .ensures) (c .before .misplaced .ensures) (c .if2 .taken)
+returns c = let h = c .before .before .before .before .before .pre in by-apic (h .0) (h .1) (c .before .wrong-io-apics .ensures .0) (c .if1 .taken)
 
 from-17-requires : tie.Need-from-17-requires
 from-17-requires c κs =
-    let h = c .before .before .before .before .before .before .pre in
-    (h .0, (h .1 .0, apic-ids (h .0) (h .1 .2) (c .before .before .before .claim .ensures) (c .before .before .if1 .left), h .1 .1))
+    let h = c .before .before .before .before .before .before .before .before .pre in
+    let w = c .before .before .before .before .wrong-io-apics .ensures in
+    (h .0, roll-16 (h .0) (h .1) (w .0) (c .before .before .before .if1 .left) (w .1) (c .before .put .ensures))
 
-returns-3 : tie.Need-returns-3
-returns-3 c =
-    let h = c .before .before .before .before .before .before .before .pre in
-    c .from-17 .ensures ∙ past-16 (h .0) (h .1 .2) (c .before .before .before .before .claim .ensures) (c .before .before .misplaced .ensures) (c .before .before .before .if1 .left) (c .before .if2 .left)
+returns-2 : tie.Need-returns-2
+returns-2 c =
+    let h = c .before .before .before .before .before .before .before .before .before .pre in
+    c .from-17 .ensures ∙ past-16 (h .0) (h .1) (c .before .before .before .before .before .wrong-io-apics .ensures .0) (c .before .before .before .before .if1 .left)
 
 pub from-16-spec : {M : Type 1} → statement M
 from-16-spec =
     tie.close
     (tie.spec
-    sub-entries
-    part-entries-start
-    part-entries-end
+    sub-wrong-io-apics
+    part-wrong-io-apics-start
+    part-wrong-io-apics-end
     (λ c κs. search needs)
     returns
     (λ c κs. search needs)
-    returns-2
     from-17-requires
-    returns-3)
+    returns-2)

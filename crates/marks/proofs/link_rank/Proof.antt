@@ -5,10 +5,10 @@ use Rattle.marks.proofs.link_rank.Statement.{statement}
 use Rattle.marks.proofs.link_rank.Tie as tie
 
 returns : tie.Need-returns
-returns c kind address = link-on _ (c .before .before .pre .1) kind address (c .if1 .taken)
+returns c = link-on _ (c .if1 .taken)
 
 returns-2 : tie.Need-returns-2
-returns-2 c kind address = link-off _ (c .before .before .pre .1) kind address (c .if1 .left)
+returns-2 c = link-off _ (c .if1 .left)
 
 pub link-rank-spec : {M : Type 1} → statement M
 link-rank-spec = tie.close (tie.spec (λ c. search needs) returns returns-2)

@@ -6,21 +6,16 @@ use Rattle.marks.proofs.mapping_rank.Statement.{statement}
 use Rattle.marks.proofs.mapping_rank.Tie as tie
 
 returns : tie.Need-returns
-returns c = mapping-kind _ (c .before .before .before .before .before .pre .1) _ _ (c .if1 .taken)
+returns c = mapping-kind _ _ _ (c .if1 .taken)
 
 returns-2 : tie.Need-returns-2
-returns-2 c =
-    mapping-below _ (c .before .before .before .before .before .before .pre .1) _ _ (c .before .if1 .left) (omega arith)
+returns-2 c = mapping-below _ _ _ (c .before .if1 .left) (omega arith)
 
 returns-3 : tie.Need-returns-3
-returns-3 c =
-    mapping-in _ (c .before .before .before .before .before .before .before .pre .1) _ _
-    (c .before .before .if1 .left) (omega arith) (omega arith)
+returns-3 c = mapping-in _ _ _ (c .before .before .if1 .left) (omega arith) (omega arith)
 
 returns-4 : tie.Need-returns-4
-returns-4 c =
-    mapping-past _ (c .before .before .before .before .before .before .before .pre .1) _ _
-    (c .before .before .if1 .left) (omega arith) (omega arith)
+returns-4 c = mapping-past _ _ _ (c .before .before .if1 .left) (omega arith) (omega arith)
 
 pub mapping-rank-spec : {M : Type 1} → statement M
 mapping-rank-spec =

@@ -17,7 +17,7 @@ abbrev μ-loop : tie.MeasureT-loop
 μ-loop up₀ bus links place₀ left₀ up place left = left
 
 loop-holds : tie.Need-loop-holds Inv-loop μ-loop
-loop-holds c = (rw (c .wide .ensures .0) refl, c .wide .ensures .1, c .before .before .pre)
+loop-holds c = (rw (c .wide .ensures .0) refl, c .wide .ensures .1, c .before .pre)
 
 returns : tie.Need-returns Inv-loop μ-loop
 returns c =
@@ -25,15 +25,15 @@ returns c =
     sym (cleared-stop (l .up) (l .place) (l .left) (l .left - 1) (omega arith) (c .if1 .taken)) ∙ l .inv .0
 
 cast-place-2 : tie.Need-cast-place-2 Inv-loop μ-loop
-cast-place-2 c = let l = c .before .before .before .loop in omega (arith, l .inv .2 .1 (l .place))
+cast-place-2 c = let l = c .before .before .before .loop in omega (arith, l .inv .2 (l .place))
 
 loop-again : tie.Need-loop-again Inv-loop μ-loop
 loop-again c =
     let l = c .before .before .before .loop in
     let p = getD (l .up) (l .place) 0 in
-    let small = l .inv .2 .1 (l .place) in
+    let small = l .inv .2 (l .place) in
     let next = cleared-next (l .up) (l .place) (l .left) (l .left - 1) (omega arith) (p - 1) (omega arith) in
-    (sym next ∙ l .inv .0, omega (arith, small), array-set (l .up) (l .place) 0 (l .inv .2) (l .inv .1) (omega arith))
+    (sym next ∙ l .inv .0, omega (arith, small), array-set (l .up) (l .place) 0 (l .inv .2) (omega arith))
 
 returns-2 : tie.Need-returns-2 Inv-loop μ-loop
 returns-2 c =
@@ -48,11 +48,10 @@ clear-spec =
     μ-loop
     (λ c κs. search needs) (λ c. search needs)
     loop-holds
-    (λ c. search needs) (λ c. search needs) (λ c. search needs)
+    (λ c. search needs) (λ c. search needs)
     returns
     (λ c. search needs) (λ c. search needs) (λ c. search needs)
     cast-place-2
     (λ c. search needs) (λ c. search needs)
     loop-again
-    (λ c. search needs)
     returns-2)

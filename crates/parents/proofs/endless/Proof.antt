@@ -19,34 +19,31 @@ abbrev μ-loop : tie.MeasureT-loop
 μ-loop up₀ s links at₀ up at = length s - at
 
 loop-holds : tie.Need-loop-holds Inv-loop μ-loop
-loop-holds c = (refl, omega arith, c .before .before .pre)
+loop-holds c = (refl, omega arith, c .before .pre .0)
 
 returns : tie.Need-returns Inv-loop μ-loop
 returns c =
     let l = c .before .before .before .before .before .loop in
-    let a = c .before .before .before .before .before .before .before .before .args in
-    let on = sym (c .before .goes-on .ensures) ∙ c .if1 .taken in
+    let a = c .before .before .before .before .before .before .before .args in
     let b = getD (a .s .now) (l .at + 2) 0 in
+    let on = sym (c .before .climb .ensures .0) ∙ c .if1 .taken in
     sym (endless-stop (l .up) (a .s .now) (l .at) (omega arith) (omega arith) b refl (a .links) on) ∙ l .inv .0
 
 loop-again : tie.Need-loop-again Inv-loop μ-loop
 loop-again c =
-    let l = c .before .before .before .before .before .before .before .before .before .before .loop in
-    let a = c .before .before .before .before .before .before .before .before .before .before .before .before .before .args in
+    let l = c .before .before .before .before .before .loop in
+    let a = c .before .before .before .before .before .before .before .args in
     let b = getD (a .s .now) (l .at + 2) 0 in
-    let small = c .before .before .before .before .before .before .before .shared-slice-known2 .given (l .at + 2) in
-    let ends = sym (c .before .before .before .before .before .before .goes-on .ensures) ∙ c .before .before .before .before .before .if1 .left in
-    let next = endless-next (l .up) (a .s .now) (l .at) (omega arith) (omega arith) b refl (a .links) ends in
-    let e = c .before .before .clear .ensures in (
-      rw e (sym next ∙ l .inv .0),
-      omega arith,
-      rw e (array-cleared (a .links) (l .up) b (l .inv .2) (omega (arith, small))),
-    )
+    let e = c .before .climb .ensures in
+    let next = endless-next (l .up) (a .s .now) (l .at) (omega arith) (omega arith) b refl (a .links)
+    (sym (e .0) ∙ c .if1 .left) in
+    let gone = e .1 (c .if1 .left) in
+    (rw gone (sym next ∙ l .inv .0), omega arith, rw gone (array-cleared (a .links) (l .up) b (l .inv .2)))
 
 returns-2 : tie.Need-returns-2 Inv-loop μ-loop
 returns-2 c =
     let l = c .before .loop in
-    let a = c .before .before .before .before .args in
+    let a = c .before .before .before .args in
     sym (endless-done (l .up) (a .s .now) (l .at) (omega arith) (omega arith) (a .links)) ∙ l .inv .0
 
 pub endless-spec : {M : Type 1} → statement M
@@ -56,9 +53,8 @@ endless-spec =
     Inv-loop
     μ-loop
     loop-holds
-    (λ c. search needs) (λ c. search needs) (λ c. search needs) (λ c κs. search needs) (λ c. search needs)
+    (λ c. search needs) (λ c. search needs) (λ c. search needs) (λ c κs. search needs)
     returns
-    (λ c. search needs) (λ c. search needs) (λ c κs. search needs) (λ c. search needs) (λ c. search needs)
+    (λ c. search needs) (λ c. search needs)
     loop-again
-    (λ c. search needs)
     returns-2)

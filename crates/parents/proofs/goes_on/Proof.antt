@@ -22,24 +22,24 @@ loop-holds c = (rw (c .wide .ensures .0) refl, c .wide .ensures .1)
 returns : tie.Need-returns Inv-loop μ-loop
 returns c =
     let l = c .before .before .before .loop in
-    let up = c .before .before .before .before .before .before .args .up .now in
+    let up = c .before .before .before .before .before .args .up .now in
     sym (goes-stop up (l .place) (l .left) (l .left - 1) (omega arith) (c .if1 .taken)) ∙ l .inv .0
 
 cast-place-2 : tie.Need-cast-place-2 Inv-loop μ-loop
-cast-place-2 c = omega (arith, c .before .before .before .before .before .before .pre .1 (c .before .before .before .loop .place))
+cast-place-2 c = omega (arith, c .before .before .before .before .before .pre (c .before .before .before .loop .place))
 
 loop-again : tie.Need-loop-again Inv-loop μ-loop
 loop-again c =
     let l = c .before .before .before .loop in
-    let up = c .before .before .before .before .before .before .args .up .now in
-    let small = c .before .before .before .before .before .before .pre .1 (l .place) in
+    let up = c .before .before .before .before .before .args .up .now in
+    let small = c .before .before .before .before .before .pre (l .place) in
     let next = goes-next up (l .place) (l .left) (l .left - 1) (omega arith) (getD up (l .place) 0 - 1) (omega arith) in
     (sym next ∙ l .inv .0, omega (arith, small))
 
 returns-2 : tie.Need-returns-2 Inv-loop μ-loop
 returns-2 c =
     let l = c .before .loop in
-    sym (goes-done (c .before .before .before .before .args .up .now) (l .place) (l .left) (omega arith)) ∙ l .inv .0
+    sym (goes-done (c .before .before .before .args .up .now) (l .place) (l .left) (omega arith)) ∙ l .inv .0
 
 pub goes-on-spec : {M : Type 1} → statement M
 goes-on-spec =

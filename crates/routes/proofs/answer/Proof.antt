@@ -2,75 +2,88 @@
 use Prim.Native.Nat.{_-_, _≤_}
 use mathlib.Core.Path.{_≡_}
 use native.Mathlib.Omega.{arith}
-use lib.ListN.{length, take}
+use lib.ListN.{length, take, replicate}
 use borrow.Author.Needs.{needs}
 use Rattle.mps.specs.Routes.{asked}
-use Rattle.routes.specs.Pairs.{enabledIn}
-use Rattle.routes.proofs.Answering.{ids-most, ids-inside, ids-read, ids-known, answer-short, answer-room, answer-put}
+use Rattle.routes.specs.Pairs.{enabledIn, OnRoll}
+use Rattle.routes.proofs.Answering.{ids-most, ids-inside, ids-read, ids-known, answer-none, answer-short, answer-room, answer-put}
 use Rattle.routes.proofs.answer.Statement.{statement}
 use Rattle.routes.proofs.answer.Tie as tie
 
-most : (c : tie.After-list) → let a = c .before .before .before .before .args in length (enabledIn (a .size) (a .targets .now)) ≤ 256
+most : (c : tie.After-list) → let a = c .before .before .before .before .before .args in length (enabledIn (a .size) (a .targets .now)) ≤ 256
 most c =
-    let s = c .before .before .before .before in
-    let bytes = c .before .before .before .shared-slice-known .given in
+    let s = c .before .before .before .before .before in
+    let bytes = c .before .before .before .before .shared-slice-known .given in
     ids-most (s .args .size) (s .args .targets .now) (λ i. omega (arith, bytes i)) (s .pre .1)
 
 read :
-    (c : tie.After-gather) → let a = c .before .before .before .before .before .args in
-    take (c .gather .result .count - 0) (c .gather .last .0) ≡ enabledIn (a .size) (a .targets .now)
-read c = ids-read _ _ (most (c .before)) (c .gather .ensures .0) (c .gather .ensures .1)
+    (c : tie.After-gather) → let a = c .before .before .before .before .before .before .args in
+    take (c .gather .result - 0) (c .gather .last .1 .0) ≡ enabledIn (a .size) (a .targets .now)
+read c = ids-read _ _ (most (c .before)) (c .gather .ensures .0) (c .gather .ensures .1 .1)
+
+known :
+    (c : tie.After-gather) → let ids = take (c .gather .result - 0) (c .gather .last .1 .0) in
+    OnRoll (c .gather .last .0) ids × (length ids ≤ 256)
+known c = ids-known _ _ (most (c .before)) (c .gather .ensures .0) (c .gather .ensures .1 .1) (c .gather .ensures .1 .0)
 
 gather-requires : tie.Need-gather-requires
-gather-requires c κs = (c .before .before .before .before .pre .0, most c)
+gather-requires c κs = (c .before .before .before .before .before .pre .0, most c)
 
 part-ids-end : tie.Need-part-ids-end
 part-ids-end c =
-    let g = c .before .before .before in
-    ids-inside _ _ (most (g .before)) (g .gather .ensures .0) (g .gather .ensures .1)
+    let g = c .before in
+    let a = g .before .before .before .before .before .before .args in
+    ids-inside (replicate 256 0) (enabledIn (a .size) (a .targets .now)) (most (g .before)) (g .gather .ensures .0) (g .gather .ensures .1 .1)
 
 count-requires : tie.Need-count-requires
 count-requires c κs =
-    let g = c .before .before .before .before in
-    let k = ids-known _ _ (most (g .before)) (g .gather .ensures .0) (g .gather .ensures .1) in
-    (k .0, k .1, g .before .before .before .before .before .pre .2)
+    let g = c .before .before .before in
+    (known g .0, known g .1, g .before .before .before .before .before .before .pre .2)
 
 returns : tie.Need-returns
 returns c =
-    let g = c .before .before .before .before .before .before in
-    let a = g .before .before .before .before .before .args in
-    answer-short (enabledIn (a .size) (a .targets .now)) (asked (a .itype) (a .bus) (a .irq)) _ (a .out .now) (read g)
+    let g = c .before .before .before .before .before in
+    let a = g .before .before .before .before .before .before .args in
+    answer-none (enabledIn (a .size) (a .targets .now)) (asked (a .itype) (a .bus) (a .irq)) _ (a .out .now) (read g)
     (c .before .count .ensures .0) (c .if1 .taken)
-
-write-requires : tie.Need-write-requires
-write-requires c κs =
-    let g = c .before .before .before .before .before .before .before in
-    let a = g .before .before .before .before .before .args in
-    let k = ids-known _ _ (most (g .before)) (g .gather .ensures .0) (g .gather .ensures .1) in (
-      k .0,
-      answer-room (enabledIn (a .size) (a .targets .now)) (asked (a .itype) (a .bus) (a .irq)) _ (a .out .now) (read g)
-          (c .before .before .count .ensures .0) (c .before .if1 .left),
-    )
 
 returns-2 : tie.Need-returns-2
 returns-2 c =
-    let n = c .before .before .before .before .before in
-    let g = n .before .before .before .before .before in
-    let a = g .before .before .before .before .before .args in
+    let g = c .before .before .before .before .before .before in
+    let a = g .before .before .before .before .before .before .args in
+    answer-short (enabledIn (a .size) (a .targets .now)) (asked (a .itype) (a .bus) (a .irq)) _ (a .out .now) (read g)
+    (c .before .before .count .ensures .0) (c .if2 .taken)
+
+write-requires : tie.Need-write-requires
+write-requires c κs =
+    let n = c .before .before .before .before in
+    let g = n .before .before .before .before in
+    let a = g .before .before .before .before .before .before .args in (
+      known g .0,
+      answer-room (enabledIn (a .size) (a .targets .now)) (asked (a .itype) (a .bus) (a .irq)) _ (a .out .now) (read g)
+          (n .count .ensures .0) (c .before .before .if2 .left),
+    )
+
+returns-3 : tie.Need-returns-3
+returns-3 c =
+    let w = c .before .before in
+    let n = w .before .before .before .before .before in
+    let g = n .before .before .before .before in
+    let a = g .before .before .before .before .before .before .args in
     answer-put (enabledIn (a .size) (a .targets .now)) (asked (a .itype) (a .bus) (a .irq)) _ (a .out .now) (read g)
-    (n .count .ensures .0) (c .before .before .before .before .if1 .left) (c .before .before .write .ensures)
+    (n .count .ensures .0) (w .before .before .before .if2 .left) (w .write .ensures)
 
 pub answer-spec : {M : Type 1} → statement M
 answer-spec =
     tie.close
     (tie.spec
-    (λ c. search needs)
     gather-requires
     (λ c. search needs) (λ c. search needs)
     part-ids-end
     count-requires
-    (λ c. search needs)
     returns
-    write-requires
     (λ c. search needs)
-    returns-2)
+    returns-2
+    write-requires
+    (λ c. search needs) (λ c. search needs)
+    returns-3)

@@ -10,10 +10,10 @@ use Rattle.routes.proofs.count.Statement.{statement}
 use Rattle.routes.proofs.count.Tie as tie
 
 abbrev Inv-loop : tie.InvT-loop
-Inv-loop s itype bus irq ids set pairs₀ at₀ pairs at = Counts ids (asked itype bus irq) s pairs at
+Inv-loop s itype bus irq ids roll pairs₀ at₀ pairs at = Counts ids (asked itype bus irq) s pairs at
 
 abbrev μ-loop : tie.MeasureT-loop
-μ-loop s itype bus irq ids set pairs₀ at₀ pairs at = length s - at
+μ-loop s itype bus irq ids roll pairs₀ at₀ pairs at = length s - at
 
 loop-holds : tie.Need-loop-holds Inv-loop μ-loop
 loop-holds c = (omega arith, omega arith, omega arith)

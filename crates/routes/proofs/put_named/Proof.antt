@@ -23,7 +23,7 @@ put-pair-requires c κs =
     let d = c .before .before in
     let s = d .before .before .before .before .before .before in
     let one = for-one (s .args .ids .now) (s .args .entry .now) (d .before .if1 .left) (omega (arith, d .before .before .shared-slice-known3 .given 6))
-    _ (s .pre .0 .0) (d .contains .ensures) (c .before .if2 .taken) in
+    _ (s .pre .0 .0) (d .has .ensures) (c .before .if2 .taken) in
     (omega arith, omega (arith, one .1))
 
 add-result : tie.Need-add-result
@@ -31,7 +31,7 @@ add-result c =
     let d = c .before .before .before .before .before in
     let s = d .before .before .before .before .before .before in
     let one = for-one (s .args .ids .now) (s .args .entry .now) (d .before .if1 .left) (omega (arith, d .before .before .shared-slice-known3 .given 6))
-    _ (s .pre .0 .0) (d .contains .ensures) (c .before .before .before .before .if2 .taken) in
+    _ (s .pre .0 .0) (d .has .ensures) (c .before .before .before .before .if2 .taken) in
     omega (arith, one .1)
 
 returns-2 : tie.Need-returns-2
@@ -39,7 +39,7 @@ returns-2 c =
     let d = c .before .before .before .before .before in
     let s = d .before .before .before .before .before .before in
     let one = for-one (s .args .ids .now) (s .args .entry .now) (d .before .if1 .left) (omega (arith, d .before .before .shared-slice-known3 .given 6))
-    _ (s .pre .0 .0) (d .contains .ensures) (c .before .before .before .before .if2 .taken) in
+    _ (s .pre .0 .0) (d .has .ensures) (c .before .before .before .before .if2 .taken) in
     (omega (arith, one .1), rw (one .0) (c .before .before .put-pair .ensures))
 
 returns-3 : tie.Need-returns-3
@@ -47,7 +47,7 @@ returns-3 c =
     let d = c .before in
     let s = d .before .before .before .before .before .before in
     let none = for-none (s .args .ids .now) (s .args .entry .now) (d .before .if1 .left) (omega (arith, d .before .before .shared-slice-known3 .given 6))
-    _ (s .pre .0 .0) (d .contains .ensures) (c .if2 .left) in
+    _ (s .pre .0 .0) (d .has .ensures) (c .if2 .left) in
     rw none (omega arith, refl)
 
 pub put-named-spec : {M : Type 1} → statement M

@@ -12,11 +12,11 @@ use Rattle.routes.proofs.write.Statement.{statement}
 use Rattle.routes.proofs.write.Tie as tie
 
 abbrev Inv-loop : tie.InvT-loop
-Inv-loop out₀ s itype bus irq ids set place₀ at₀ out place at =
+Inv-loop out₀ s itype bus irq ids roll place₀ at₀ out place at =
     Writes out₀ 0 (pairsFrom ids (asked itype bus irq) s 0) out place (pairsFrom ids (asked itype bus irq) s at) × (at ≤ length s)
 
 abbrev μ-loop : tie.MeasureT-loop
-μ-loop out₀ s itype bus irq ids set place₀ at₀ out place at = length s - at
+μ-loop out₀ s itype bus irq ids roll place₀ at₀ out place at = length s - at
 
 loop-holds : tie.Need-loop-holds Inv-loop μ-loop
 loop-holds c = (writes-first _ _ _, omega arith)

@@ -7,7 +7,7 @@ use Rattle.spaces.proofs.wrong_mapping.Tie as tie
 returns : tie.Need-returns
 returns c =
     let a = c .before .before .before .before .before .before .before .before .args in
-    map-at (a .buses) (a .s .now) (a .at) (c .before .before .contains .ensures)
+    map-at (a .roll .now) (a .s .now) (a .at) (c .before .before .has .ensures)
     (c .before .before .before .before .before .le64 .ensures) (c .before .before .before .before .le642 .ensures)
     (c .past-end .ensures)
 

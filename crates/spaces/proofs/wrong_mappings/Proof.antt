@@ -10,10 +10,10 @@ use Rattle.spaces.proofs.wrong_mappings.Statement.{statement}
 use Rattle.spaces.proofs.wrong_mappings.Tie as tie
 
 abbrev Inv-loop : tie.InvT-loop
-Inv-loop s buses at₀ at = Seeks (wrongMappingIn buses) 20 s at
+Inv-loop s roll at₀ at = Seeks (wrongMappingIn roll) 20 s at
 
 abbrev μ-loop : tie.MeasureT-loop
-μ-loop s buses at₀ at = length s - at
+μ-loop s roll at₀ at = length s - at
 
 loop-holds : tie.Need-loop-holds Inv-loop μ-loop
 loop-holds c = (refl, omega arith)

@@ -7,7 +7,7 @@ use Rattle.spaces.proofs.wrong_modifier.Tie as tie
 returns : tie.Need-returns
 returns c =
     let a = c .before .before .before .before .before .args in
-    mod-at (a .buses) (a .s .now) (a .at) (c .contains .ensures) (c .before .before .le32 .ensures)
+    mod-at (a .roll .now) (a .s .now) (a .at) (c .has .ensures) (c .before .before .le32 .ensures)
 
 pub wrong-modifier-spec : {M : Type 1} → statement M
 wrong-modifier-spec =

@@ -1,0 +1,44 @@
+-- The roll: a number for each ID from 0 to 255, whose bits say who has that ID.
+use Prim.Native.Nat.{ℕ, _^_, _<_}
+use mathlib.Core.Path.{_≡_}
+use mathlib.Core.Bool.{Bool}
+use mathlib.Core.List.{List}
+use lib.Bits.{bitOr}
+use lib.ListN.{getD, set}
+use Rattle.mps.specs.Words.{bit}
+
+-- ---- The bits
+
+-- A processor has the ID, enabled or not.
+abbrev pub processorBit : ℕ
+processorBit = 0
+
+-- An enabled APIC has it, or none may.
+abbrev pub takenBit : ℕ
+takenBit = 1
+
+-- An I/O APIC has it, enabled or not.
+abbrev pub ioApicBit : ℕ
+ioApicBit = 2
+
+-- A bus has it.
+abbrev pub busBit : ℕ
+busBit = 3
+
+-- The number that has one bit.
+abbrev pub mark : ℕ → ℕ
+mark k = 2 ^ k
+
+-- ---- The roll
+
+-- Whether bit k is set at an ID.
+unfoldable pub marked : ℕ → List ℕ → ℕ → Bool
+marked k roll x = bit k (getD roll x 0)
+
+-- The roll with the bits of a number set at an ID, beside those that were.
+unfoldable pub withMarks : ℕ → List ℕ → ℕ → List ℕ
+withMarks marks roll x = set roll x (bitOr (getD roll x 0) marks)
+
+-- Bit k is set at exactly the IDs of which a test holds.
+abbrev pub Shows : ℕ → List ℕ → (ℕ → Bool) → Type 0
+Shows k roll test = (y : ℕ) → y < 256 → marked k roll y ≡ test y
