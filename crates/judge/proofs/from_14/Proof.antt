@@ -9,15 +9,6 @@ use Rattle.judge.proofs.from_14.Tie as tie
 returns : tie.Need-returns
 returns c = by-local-apic (c .before .before .before .pre) (c .before .le32 .ensures) (c .if1 .taken)
 
-sub-wrong-processors : tie.Need-sub-wrong-processors
-sub-wrong-processors c = omega arith
-
-part-wrong-processors-start : tie.Need-part-wrong-processors-start
-part-wrong-processors-start c = omega arith
-
-part-wrong-processors-end : tie.Need-part-wrong-processors-end
-part-wrong-processors-end c = omega arith
-
 returns-2 : tie.Need-returns-2
 returns-2 c =
     by-processor (c .before .before .before .before .before .before .before .before .before .pre) (c .before .before .before .before .before .before .before .le32 .ensures) (c .before .before .before .before .put .ensures) (c .before .wrong-processors .ensures .0) (c .if2 .taken)
@@ -41,9 +32,7 @@ from-14-spec =
     (λ c κs. search needs)
     returns
     (λ c κs. search needs)
-    sub-wrong-processors
-    part-wrong-processors-start
-    part-wrong-processors-end
+    (λ c. omega arith) (λ c. omega arith) (λ c. omega arith)
     (λ c κs. search needs)
     returns-2
     from-15-requires

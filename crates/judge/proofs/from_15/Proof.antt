@@ -6,15 +6,6 @@ use Rattle.judge.proofs.Ways.{by-bus, past-15, roll-15}
 use Rattle.judge.proofs.from_15.Statement.{statement}
 use Rattle.judge.proofs.from_15.Tie as tie
 
-sub-wrong : tie.Need-sub-wrong
-sub-wrong c = omega arith
-
-part-wrong-start : tie.Need-part-wrong-start
-part-wrong-start c = omega arith
-
-part-wrong-end : tie.Need-part-wrong-end
-part-wrong-end c = omega arith
-
 returns : tie.Need-returns
 returns c = let h = c .before .before .before .before .before .pre in by-bus (h .0) (h .1) (c .before .wrong .ensures .0) (c .if1 .taken)
 
@@ -33,9 +24,7 @@ pub from-15-spec : {M : Type 1} → statement M
 from-15-spec =
     tie.close
     (tie.spec
-    sub-wrong
-    part-wrong-start
-    part-wrong-end
+    (λ c. omega arith) (λ c. omega arith) (λ c. omega arith)
     (λ c κs. search needs)
     returns
     from-16-requires

@@ -6,15 +6,6 @@ use Rattle.judge.proofs.Ways.{by-apic, past-16, roll-16}
 use Rattle.judge.proofs.from_16.Statement.{statement}
 use Rattle.judge.proofs.from_16.Tie as tie
 
-sub-wrong-io-apics : tie.Need-sub-wrong-io-apics
-sub-wrong-io-apics c = omega arith
-
-part-wrong-io-apics-start : tie.Need-part-wrong-io-apics-start
-part-wrong-io-apics-start c = omega arith
-
-part-wrong-io-apics-end : tie.Need-part-wrong-io-apics-end
-part-wrong-io-apics-end c = omega arith
-
 returns : tie.Need-returns
 returns c = let h = c .before .before .before .before .before .pre in by-apic (h .0) (h .1) (c .before .wrong-io-apics .ensures .0) (c .if1 .taken)
 
@@ -33,9 +24,7 @@ pub from-16-spec : {M : Type 1} → statement M
 from-16-spec =
     tie.close
     (tie.spec
-    sub-wrong-io-apics
-    part-wrong-io-apics-start
-    part-wrong-io-apics-end
+    (λ c. omega arith) (λ c. omega arith) (λ c. omega arith)
     (λ c κs. search needs)
     returns
     (λ c κs. search needs)

@@ -6,26 +6,8 @@ use Rattle.judge.proofs.Ways.{by-interrupt, by-local, past-17}
 use Rattle.judge.proofs.from_17.Statement.{statement}
 use Rattle.judge.proofs.from_17.Tie as tie
 
-sub-wrong-io : tie.Need-sub-wrong-io
-sub-wrong-io c = omega arith
-
-part-wrong-io-start : tie.Need-part-wrong-io-start
-part-wrong-io-start c = omega arith
-
-part-wrong-io-end : tie.Need-part-wrong-io-end
-part-wrong-io-end c = omega arith
-
 returns : tie.Need-returns
 returns c = let h = c .before .before .before .before .pre in by-interrupt (h .0) (h .1) (c .before .wrong-io .ensures) (c .if1 .taken)
-
-sub-wrong-local : tie.Need-sub-wrong-local
-sub-wrong-local c = omega arith
-
-part-wrong-local-start : tie.Need-part-wrong-local-start
-part-wrong-local-start c = omega arith
-
-part-wrong-local-end : tie.Need-part-wrong-local-end
-part-wrong-local-end c = omega arith
 
 returns-2 : tie.Need-returns-2
 returns-2 c =
@@ -42,14 +24,10 @@ pub from-17-spec : {M : Type 1} → statement M
 from-17-spec =
     tie.close
     (tie.spec
-    sub-wrong-io
-    part-wrong-io-start
-    part-wrong-io-end
+    (λ c. omega arith) (λ c. omega arith) (λ c. omega arith)
     (λ c κs. search needs)
     returns
-    sub-wrong-local
-    part-wrong-local-start
-    part-wrong-local-end
+    (λ c. omega arith) (λ c. omega arith) (λ c. omega arith)
     (λ c κs. search needs)
     returns-2
     (λ c κs. search needs)

@@ -5,40 +5,13 @@ use Rattle.judge.proofs.Ways.{by-mapping, by-modifier, by-link, past-18
 use Rattle.judge.proofs.from_18.Statement.{statement}
 use Rattle.judge.proofs.from_18.Tie as tie
 
-sub-wrong-mappings : tie.Need-sub-wrong-mappings
-sub-wrong-mappings c = omega arith
-
-part-wrong-mappings-start : tie.Need-part-wrong-mappings-start
-part-wrong-mappings-start c = omega arith
-
-part-wrong-mappings-end : tie.Need-part-wrong-mappings-end
-part-wrong-mappings-end c = omega arith
-
 returns : tie.Need-returns
 returns c = let h = c .before .before .before .before .pre in by-mapping (h .0) (h .1) (c .before .wrong-mappings .ensures) (c .if1 .taken)
-
-sub-wrong-modifiers : tie.Need-sub-wrong-modifiers
-sub-wrong-modifiers c = omega arith
-
-part-wrong-modifiers-start : tie.Need-part-wrong-modifiers-start
-part-wrong-modifiers-start c = omega arith
-
-part-wrong-modifiers-end : tie.Need-part-wrong-modifiers-end
-part-wrong-modifiers-end c = omega arith
 
 returns-2 : tie.Need-returns-2
 returns-2 c =
     let h = c .before .before .before .before .before .before .before .pre in
     by-modifier (h .0) (h .1) (c .before .before .before .before .wrong-mappings .ensures) (c .before .wrong-modifiers .ensures) (c .if2 .taken)
-
-sub-wrong : tie.Need-sub-wrong
-sub-wrong c = omega arith
-
-part-wrong-start : tie.Need-part-wrong-start
-part-wrong-start c = omega arith
-
-part-wrong-end : tie.Need-part-wrong-end
-part-wrong-end c = omega arith
 
 returns-3 : tie.Need-returns-3
 returns-3 c =
@@ -55,19 +28,13 @@ pub from-18-spec : {M : Type 1} → statement M
 from-18-spec =
     tie.close
     (tie.spec
-    sub-wrong-mappings
-    part-wrong-mappings-start
-    part-wrong-mappings-end
+    (λ c. omega arith) (λ c. omega arith) (λ c. omega arith)
     (λ c κs. search needs)
     returns
-    sub-wrong-modifiers
-    part-wrong-modifiers-start
-    part-wrong-modifiers-end
+    (λ c. omega arith) (λ c. omega arith) (λ c. omega arith)
     (λ c κs. search needs)
     returns-2
-    sub-wrong
-    part-wrong-start
-    part-wrong-end
+    (λ c. omega arith) (λ c. omega arith) (λ c. omega arith)
     (λ c κs. search needs)
     returns-3
     returns-4)
