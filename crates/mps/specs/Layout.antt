@@ -277,6 +277,10 @@ interruptType e = byte e 1
 abbrev pub interruptTypeMost : ℕ
 interruptTypeMost = 3
 
+-- ".. interrupt type INT" (document 02, ask 1)
+abbrev pub vectored : ℕ
+vectored = 0
+
 -- "flags 2 (bits 0-1 polarity, 2-3 trigger ..)"
 abbrev pub polarity : Entry → ℕ
 polarity e = byte e 2 % 4
@@ -307,6 +311,23 @@ localInputMost = 1
 -- "255 names all": a destination, and the ID that no enabled APIC may have.
 abbrev pub everyone : ℕ
 everyone = 255
+
+-- ---- The source of a PCI interrupt, MPS Appendix D.3, Table D-1
+
+-- "device 0 to 31 and pin 0 to 3" (document 02, ask 1)
+abbrev pub pins : ℕ
+pins = 4
+
+abbrev pub devices : ℕ
+devices = 32
+
+-- "bits 0-1 the pin (0 is INTA#)"
+abbrev pub pinOf : Entry → ℕ
+pinOf e = sourceIrq e % pins
+
+-- "bits 2-6 the device, bit 7 reserved"
+abbrev pub deviceOf : Entry → ℕ
+deviceOf e = sourceIrq e / pins % devices
 
 -- ---- Extended entries, MPS Tables 4-13 to 4-16
 

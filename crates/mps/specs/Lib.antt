@@ -14,6 +14,7 @@ pub mod Rules
 pub mod Sections
 pub mod Judge
 pub mod Routes
+pub mod Slots
 pub mod Addresses
 pub mod Listing
 pub mod Writing

@@ -97,6 +97,15 @@ module _ {A B : Type 0} where
   joined f [] = []
   joined f (x ∷ xs) = f x ++ joined f xs
 
+-- So many numbers from one on, rising.
+unfoldable pub rising : ℕ → ℕ → List ℕ
+rising zero k = []
+rising (suc n) k = k ∷ rising n (suc k)
+
+-- The numbers below one, rising.
+abbrev pub below : ℕ → List ℕ
+below n = rising n 0
+
 -- The pieces of a list of bytes are `cut len 0 s`: the bytes from the first of a piece on tell its length, and the last
 -- piece is what is left, where that is shorter. A piece of length 0 is empty and passes one byte. The number k is how
 -- many bytes of a piece are still to be passed. In plain words (crate laws, cut-first): where the length is not 0, the

@@ -137,6 +137,9 @@ pub const INPUT: usize = 7;
 
 pub const INTERRUPT_TYPE_MOST: u8 = 3;
 
+// INT.
+pub const VECTORED: u8 = 0;
+
 pub const RESERVED_MODE: u8 = 2;
 
 pub const EVERYONE: u8 = 255;
@@ -145,6 +148,15 @@ pub const EVERYONE: u8 = 255;
 pub const INPUT_MOST: u8 = 255;
 
 pub const LOCAL_INPUT_MOST: u8 = 1;
+
+// ---- The source of a PCI interrupt, MPS Appendix D.3, Table D-1
+
+pub const PINS: u8 = 4;
+
+pub const DEVICES: u8 = 32;
+
+// The slots of a bus: the source IRQ without its bit 7.
+pub const BUS_SLOTS: u8 = 128;
 
 // ---- Extended entries, MPS Tables 4-13 to 4-16
 
@@ -191,3 +203,6 @@ pub const MODIFIED_BELOW: u64 = 65536;
 
 // A pair of a route: an ID and an input.
 pub const PAIR_SIZE: usize = 2;
+
+// A slot: bus, device and pin.
+pub const SLOT_SIZE: usize = 3;

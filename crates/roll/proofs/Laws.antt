@@ -2,22 +2,23 @@
 -- a loop meets at a place. Crates above need these and not how a roll is stored. Assumes nothing.
 use Prim.Native.Nat.{ℕ, suc, _+_, _-_, _≤_, _<_}
 use mathlib.Core.Path.{_≡_, refl, sym, ap, _∙_}
-use mathlib.Core.Bool.{Bool, true, false, _||_, _&&_, true≢false, or-true, or-comm}
+use mathlib.Core.Bool.{Bool, true, false, _||_, _&&_, true≢false, and-true, or-true, or-false, or-assoc, or-comm}
+use native.Mathlib.Omega.{arith}
 use mathlib.Core.List.{List, [], _∷_}
 use lib.Bits.{bitOr}
 use lib.Dec.{eqb}
-use lib.ListN.{length, getD, set, length-set, take, drop, replicate}
+use lib.ListN.{length, getD, set, length-set, take, drop, replicate, length-replicate}
 use lib.Seq.{getD-set-same, getD-set-other}
-use borrow.Author.Tests.{eqb-true, eqb-false}
+use borrow.Author.Tests.{eq-eqb, eqb-true, eqb-false}
 use Rattle.mps.specs.Words.{bit, among, twice, any, each, keep}
 use Rattle.mps.specs.Layout.{Entry, idOf}
 use Rattle.mps.specs.Sections.{rows}
 use Rattle.laws.proofs.Tests.{eqb-comm, whether, or-swap}
-use Rattle.laws.proofs.Bits.{bit-none, bit-or}
+use Rattle.laws.proofs.Bits.{bit-none, bit-power, bit-or}
 use Rattle.laws.proofs.Lists.{zeros-at}
 use Rattle.laws.proofs.Rows.{rows-done, rows-next}
 use Rattle.laws.proofs.Small.{Bytes, Small, small-more, small-keep, below-each}
-use Rattle.roll.specs.Roll.{marked, withMarks, Shows}
+use Rattle.roll.specs.Roll.{mark, marked, withMarks, Shows, enrolled, OnRoll}
 use Rattle.roll.specs.Calls.{Call, Called, wrongOne, called}
 
 -- ---- One mark
@@ -45,6 +46,28 @@ marked-put k m roll x y h = cases (eqb y x) refl
 pub marked-none : (k n y : ℕ) → marked k (replicate n 0) y ≡ false
 unfolding marked
 marked-none k n y = rw (zeros-at n y) (bit-none k)
+
+-- ---- Many IDs, one after the other
+
+-- On the roll then are those who are put on it, and who was on it before.
+enrolled-also : (k x : ℕ) (roll ids : List ℕ) → x < length roll → marked k (enrolled k roll ids) x ≡ (among x ids || marked k roll x)
+unfolding enrolled among
+enrolled-also k x roll [] h = refl
+enrolled-also k x roll (y ∷ ids) h =
+    let here = eqb x y in
+    let rest = among x ids in
+    let old = marked k roll x in
+    let own : bit k (mark k) ≡ true = bit-power k k ∙ eq-eqb k k refl in
+    let put : marked k (withMarks (mark k) roll y) x ≡ (here || old) =
+    marked-put k (mark k) roll y x h ∙ ap (λ (b : Bool). here && b || old) own ∙ ap (λ (b : Bool). b || old) (and-true here) in
+    enrolled-also k x (withMarks (mark k) roll y) ids (rw (length-marks (mark k) roll y) h)
+    ∙ rw put (or-swap rest here old ∙ sym (or-assoc here rest old))
+
+-- Of an empty one none was.
+pub enrolled-on : (k n : ℕ) (ids : List ℕ) → n ≡ 256 → OnRoll k (enrolled k (replicate n 0) ids) ids
+enrolled-on k n ids size x h =
+    enrolled-also k x (replicate n 0) ids (omega (arith, size, h, length-replicate {A = ℕ} n 0))
+    ∙ rw (marked-none k n x) (or-false (among x ids))
 
 -- ---- A call, one entry at a time
 

@@ -2,10 +2,10 @@
 use Prim.Native.Nat.{ℕ, _^_, _<_}
 use mathlib.Core.Path.{_≡_}
 use mathlib.Core.Bool.{Bool}
-use mathlib.Core.List.{List}
+use mathlib.Core.List.{List, [], _∷_}
 use lib.Bits.{bitOr}
 use lib.ListN.{getD, set}
-use Rattle.mps.specs.Words.{bit}
+use Rattle.mps.specs.Words.{bit, among}
 
 -- ---- The bits
 
@@ -42,3 +42,12 @@ withMarks marks roll x = set roll x (bitOr (getD roll x 0) marks)
 -- Bit k is set at exactly the IDs of which a test holds.
 abbrev pub Shows : ℕ → List ℕ → (ℕ → Bool) → Type 0
 Shows k roll test = (y : ℕ) → y < 256 → marked k roll y ≡ test y
+
+-- A roll with bit k set at each of some IDs, one after the other. (`called` of Calls looks for wrong entries; here none can be.)
+unfoldable pub enrolled : ℕ → List ℕ → List ℕ → List ℕ
+enrolled k roll [] = roll
+enrolled k roll (x ∷ ids) = enrolled k (withMarks (mark k) roll x) ids
+
+-- They are on the roll, and no others.
+abbrev pub OnRoll : ℕ → List ℕ → List ℕ → Type 0
+OnRoll k roll ids = Shows k roll (λ (x : ℕ). among x ids)

@@ -32,8 +32,9 @@ use Rattle.laws.proofs.Cut.{cut-most}
 use Rattle.judge.specs.Placed.{Placed}
 use Rattle.judge.proofs.Laws.{refused-number, refused-some, placed-listed}
 use Rattle.accepted.proofs.Sound.{sound}
-use Rattle.routes.specs.Pairs.{sideOf, enabledIn, enrolled, OnRoll, pairsIn, countIn, told}
-use Rattle.routes.proofs.Counting.{enrolled-on}
+use Rattle.routes.specs.Pairs.{sideOf, enabledIn, pairsIn, countIn, told}
+use Rattle.roll.specs.Roll.{takenBit, enrolled, OnRoll}
+use Rattle.roll.proofs.Laws.{enrolled-on}
 use Rattle.routes.proofs.Laws.{paired, pairs-count, io-apart, local-apart, io-routes, local-routes, table-refused, line-refused, line-answered}
 
 -- ---- One side
@@ -55,9 +56,9 @@ module _ (places ids : List ℕ) (h : length ids ≤ length places) {n : ℕ} {l
 
   -- They are on the roll.
   pub ids-known :
-      {roll : List ℕ} → roll ≡ enrolled (replicate 256 0) ids
-      → OnRoll roll (take (n - 0) list) × (length (take (n - 0) list) ≤ length places)
-  ids-known g = rw (ids-read, g) (enrolled-on 256 ids refl, h)
+      {roll : List ℕ} → roll ≡ enrolled takenBit (replicate 256 0) ids
+      → OnRoll takenBit roll (take (n - 0) list) × (length (take (n - 0) list) ≤ length places)
+  ids-known g = rw (ids-read, g) (enrolled-on takenBit 256 ids refl, h)
 
 -- What is told of pairs, and what is left in the room.
 abbrev pub Gives : List ℕ → List ℕ → ℕ → List ℕ → Type 0

@@ -18,9 +18,8 @@ use Rattle.laws.proofs.Tests.{whether, or-swap}
 use Rattle.laws.proofs.Lists.{keep-in, keep-out}
 use Rattle.laws.proofs.Rows.{rows-done, rows-next, row-byte}
 use Rattle.apics.proofs.Laws.{row-enabled}
-use Rattle.roll.specs.Roll.{marked, withMarks}
-use Rattle.roll.proofs.Laws.{length-marks, marked-put, marked-none}
-use Rattle.routes.specs.Pairs.{enabledIn, enrolled, OnRoll, named, countIn}
+use Rattle.roll.specs.Roll.{takenBit, marked, withMarks, enrolled, OnRoll}
+use Rattle.routes.specs.Pairs.{enabledIn, named, countIn}
 
 -- ---- asked
 
@@ -49,7 +48,7 @@ module _ (ids : List ℕ) (to : ℕ) where
   unfolding named
   named-all e = rw (eq-eqb to 255 e)
 
-  module _ (n : to ≡ 255 → ⊥) (h : to < 256) (roll : List ℕ) (on : OnRoll roll ids) {r : Bool} (e : r ≡ marked 1 roll to) where
+  module _ (n : to ≡ 255 → ⊥) (h : to < 256) (roll : List ℕ) (on : OnRoll takenBit roll ids) {r : Bool} (e : r ≡ marked 1 roll to) where
     found : {b : Bool} → r ≡ b → among to ids ≡ b
     found f = sym (on to h) ∙ sym e ∙ f
 
@@ -134,26 +133,7 @@ module _ (n : ℕ) (s : List ℕ) (at : ℕ) (h : at ≤ length s) where
     unfolding enabledIn
     enabled-off p = rw (first, keep-out enabled own behind (row-enabled n s at z ∙ ne-eqb _ _ p))
 
--- ---- enrolled
-
--- On the roll then are those who are put on it, and who was on it before.
-enrolled-also : (x : ℕ) (roll ids : List ℕ) → x < length roll → marked 1 (enrolled roll ids) x ≡ (among x ids || marked 1 roll x)
-unfolding enrolled among bit
-enrolled-also x roll [] h = refl
-enrolled-also x roll (y ∷ ids) h =
-    let here = eqb x y in
-    let rest = among x ids in
-    let old = marked 1 roll x in
-    let put : marked 1 (withMarks 2 roll y) x ≡ (here || old) =
-    marked-put 1 2 roll y x h ∙ ap (λ (b : Bool). b || old) (and-true here) in
-    enrolled-also x (withMarks 2 roll y) ids (rw (length-marks 2 roll y) h)
-    ∙ rw put (or-swap rest here old ∙ sym (or-assoc here rest old))
-
--- Of an empty one none was.
-pub enrolled-on : (n : ℕ) (ids : List ℕ) → n ≡ 256 → OnRoll (enrolled (replicate n 0) ids) ids
-enrolled-on n ids size x h =
-    enrolled-also x (replicate n 0) ids (omega (arith, size, h, length-replicate {A = ℕ} n 0))
-    ∙ rw (marked-none 1 n x) (or-false (among x ids))
+-- ---- gather
 
 -- What the loop that gathers keeps: with the IDs of the rows left it comes to those of all, in number, on the roll and in
 -- the list.
@@ -161,13 +141,13 @@ abbrev pub Gathers : List ℕ → List ℕ → List ℕ → ℕ → List ℕ →
 Gathers roll₀ ids₀ s n roll ids count at =
     (at ≤ length s)
     × (count + length (enabledIn n (drop at s)) ≡ length (enabledIn n s))
-    × (enrolled roll (enabledIn n (drop at s)) ≡ enrolled roll₀ (enabledIn n s))
+    × (enrolled takenBit roll (enabledIn n (drop at s)) ≡ enrolled takenBit roll₀ (enabledIn n s))
     × (sets ids count (enabledIn n (drop at s)) ≡ sets ids₀ 0 (enabledIn n s))
 
 module _ (roll₀ ids₀ s : List ℕ) (n : ℕ) (roll ids : List ℕ) (count at : ℕ) (inv : Gathers roll₀ ids₀ s n roll ids count at) where
   pub gathers-done :
       length s - at < n
-      → (count ≡ length (enabledIn n s)) × ((roll ≡ enrolled roll₀ (enabledIn n s)) × (ids ≡ sets ids₀ 0 (enabledIn n s)))
+      → (count ≡ length (enabledIn n s)) × ((roll ≡ enrolled takenBit roll₀ (enabledIn n s)) × (ids ≡ sets ids₀ 0 (enabledIn n s)))
   unfolding enrolled
   gathers-done f =
       let none = enabled-done n s at (inv .0) f in

@@ -14,8 +14,8 @@ use Rattle.mps.specs.Routes.{pair}
 use Rattle.laws.proofs.Lists.{keep-in, keep-out}
 use Rattle.laws.proofs.Rows.{rows-done, rows-next}
 use Rattle.laws.proofs.Stores.{sets-append}
-use Rattle.roll.specs.Roll.{marked}
-use Rattle.routes.specs.Pairs.{OnRoll, pairsFor, pairsIn}
+use Rattle.roll.specs.Roll.{takenBit, marked, OnRoll}
+use Rattle.routes.specs.Pairs.{pairsFor, pairsIn}
 use Rattle.routes.proofs.Counting.{named-all, named-one, named-none}
 
 -- ---- Writing on
@@ -84,7 +84,7 @@ module _ (ids : List ℕ) (e : Entry) where
   unfolding pairsFor
   for-all h = rw (named-all ids (destination e) h)
 
-  module _ (n : destination e ≡ 255 → ⊥) (h : destination e < 256) (roll : List ℕ) (on : OnRoll roll ids) {r : Bool} (f : r ≡ marked 1 roll (destination e)) where
+  module _ (n : destination e ≡ 255 → ⊥) (h : destination e < 256) (roll : List ℕ) (on : OnRoll takenBit roll ids) {r : Bool} (f : r ≡ marked 1 roll (destination e)) where
     for-its : r ≡ true → pairsFor ids e ≡ pair e (destination e)
     unfolding pairsFor joined
     for-its g = rw (named-one ids (destination e) n h roll on f g) (append-nil (pair e (destination e)))

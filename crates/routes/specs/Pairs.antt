@@ -13,7 +13,6 @@ use Rattle.mps.specs.Rules.{Side, ioSide, localSide}
 use Rattle.mps.specs.Sections.{rows}
 use Rattle.mps.specs.Rooms.{tooSmall}
 use Rattle.mps.specs.Routes.{pair, pairSize}
-use Rattle.roll.specs.Roll.{takenBit, mark, withMarks, Shows}
 
 -- The side that a query is about.
 abbrev pub sideOf : Bool → Side
@@ -22,15 +21,6 @@ sideOf local = cond local localSide ioSide
 -- The IDs of the enabled entries, of entries of n bytes each, one behind the other.
 unfoldable pub enabledIn : ℕ → List ℕ → List ℕ
 enabledIn n s = each idOf (keep enabled (rows n s))
-
--- A roll with IDs put on it as taken, one after the other. (`called` of roll looks for wrong entries; here none can be.)
-unfoldable pub enrolled : List ℕ → List ℕ → List ℕ
-enrolled roll [] = roll
-enrolled roll (x ∷ ids) = enrolled (withMarks (mark takenBit) roll x) ids
-
--- They are on a roll, and no others.
-abbrev pub OnRoll : List ℕ → List ℕ → Type 0
-OnRoll roll ids = Shows takenBit roll (λ (x : ℕ). among x ids)
 
 -- Those of them that a destination names.
 unfoldable pub named : List ℕ → ℕ → List ℕ

@@ -24,8 +24,9 @@ ghost use Rattle.mps.specs.Sections.{rows};
 ghost use Rattle.mps.specs.Judge.{tableRefusal};
 ghost use Rattle.mps.specs.Rooms.{fitLeft};
 ghost use Rattle.mps.specs.Routes.{question, asked as isAsked, pair, pairSize, routesOf, routed, routesLeft};
+ghost use Rattle.roll.specs.Roll.{takenBit, enrolled, OnRoll};
 ghost use Rattle.judge.specs.Placed.{Placed};
-ghost use Rattle.routes.specs.Pairs.{sideOf, enabledIn, enrolled, OnRoll, named, pairsFor, pairsIn, countIn, told};
+ghost use Rattle.routes.specs.Pairs.{sideOf, enabledIn, named, pairsFor, pairsIn, countIn, told};
 
 // Interrupt type, bus and IRQ in; the pairs stand in the room from its first byte on.
 pub fn io(t: &[u8], itype: u8, bus: u8, irq: u8, out: &mut [u8]) -> Lent
@@ -153,7 +154,7 @@ fn answer(
 fn gather(roll: &mut [u8; 256], ids: &mut [u8; 256], s: &[u8], size: usize) -> usize
     requires { ⌜ (4 ≤ size) × (length (enabledIn size (now s)) ≤ 256) ⌝ }
     ensures { λ r. ⌜ r ≡ length (enabledIn size (now (s .entry))) ⌝ }
-    ensures { λ _. ⌜ now (roll .exit) ≡ enrolled (now (roll .entry)) (enabledIn size (now (s .entry))) ⌝ }
+    ensures { λ _. ⌜ now (roll .exit) ≡ enrolled takenBit (now (roll .entry)) (enabledIn size (now (s .entry))) ⌝ }
     ensures { λ _. ⌜ now (ids .exit) ≡ sets (now (ids .entry)) 0 (enabledIn size (now (s .entry))) ⌝ }
 {
     let mut count = 0;
@@ -183,7 +184,7 @@ fn asked(s: &[u8], at: usize, itype: u8, bus: u8, irq: u8) -> bool
 
 // How many APICs a destination names.
 fn names(ids: &[u8], roll: &[u8; 256], to: u8) -> usize
-    requires { ⌜ OnRoll (now roll) (now ids) ⌝ }
+    requires { ⌜ OnRoll takenBit (now roll) (now ids) ⌝ }
     ensures { λ r. ⌜ r ≡ length (named (now (ids .entry)) to) ⌝ }
 {
     if to == layout::EVERYONE {
@@ -197,7 +198,7 @@ fn names(ids: &[u8], roll: &[u8; 256], to: u8) -> usize
 
 // How many pairs there are.
 fn count(s: &[u8], itype: u8, bus: u8, irq: u8, ids: &[u8], roll: &[u8; 256]) -> usize
-    requires { ⌜ (OnRoll (now roll) (now ids)) × (length (now ids) ≤ 256) × (length (now s) ≤ 65535) ⌝ }
+    requires { ⌜ (OnRoll takenBit (now roll) (now ids)) × (length (now ids) ≤ 256) × (length (now s) ≤ 65535) ⌝ }
     ensures { λ r. ⌜ r ≡ countIn (now (ids .entry)) (isAsked itype bus irq) (rows entrySize (now (s .entry))) ⌝ }
     ensures { λ r. ⌜ r ≤ 32 * length (now (s .entry)) ⌝ }
 {
@@ -239,7 +240,7 @@ fn put_all(out: &mut [u8], at: usize, entry: &[u8], ids: &[u8]) -> usize
 
 // The pairs of one entry; answers the place behind them.
 fn put_named(out: &mut [u8], at: usize, entry: &[u8], ids: &[u8], roll: &[u8; 256]) -> usize
-    requires { ⌜ (OnRoll (now roll) (now ids)) × (length (now entry) ≡ entrySize) ⌝ }
+    requires { ⌜ (OnRoll takenBit (now roll) (now ids)) × (length (now entry) ≡ entrySize) ⌝ }
     requires { ⌜ at + length (pairsFor (now ids) (now entry)) ≤ length (now out) ⌝ }
     ensures { λ r. ⌜ r ≡ at + length (pairsFor (now (ids .entry)) (now (entry .entry))) ⌝ }
     ensures { λ _. ⌜ now (out .exit) ≡ sets (now (out .entry)) at (pairsFor (now (ids .entry)) (now (entry .entry))) ⌝ }
@@ -257,7 +258,7 @@ fn put_named(out: &mut [u8], at: usize, entry: &[u8], ids: &[u8], roll: &[u8; 25
 
 // All pairs, from the room's first byte on.
 fn write(out: &mut [u8], s: &[u8], itype: u8, bus: u8, irq: u8, ids: &[u8], roll: &[u8; 256])
-    requires { ⌜ OnRoll (now roll) (now ids) ⌝ }
+    requires { ⌜ OnRoll takenBit (now roll) (now ids) ⌝ }
     requires { ⌜ length (pairsIn (now ids) (isAsked itype bus irq) (rows entrySize (now s))) ≤ length (now out) ⌝ }
     ensures { λ _. ⌜ now (out .exit) ≡ sets (now (out .entry)) 0 (pairsIn (now (ids .entry)) (isAsked itype bus irq) (rows entrySize (now (s .entry)))) ⌝ }
 {

@@ -5,7 +5,8 @@ use native.Mathlib.Omega.{arith}
 use lib.ListN.{length, take, replicate}
 use borrow.Author.Needs.{needs}
 use Rattle.mps.specs.Routes.{asked}
-use Rattle.routes.specs.Pairs.{enabledIn, OnRoll}
+use Rattle.routes.specs.Pairs.{enabledIn}
+use Rattle.roll.specs.Roll.{takenBit, OnRoll}
 use Rattle.routes.proofs.Answering.{ids-most, ids-inside, ids-read, ids-known, answer-none, answer-short, answer-room, answer-put}
 use Rattle.routes.proofs.answer.Statement.{statement}
 use Rattle.routes.proofs.answer.Tie as tie
@@ -23,7 +24,7 @@ read c = ids-read _ _ (most (c .before)) (c .gather .ensures .0) (c .gather .ens
 
 known :
     (c : tie.After-gather) → let ids = take (c .gather .result - 0) (c .gather .last .1 .0) in
-    OnRoll (c .gather .last .0) ids × (length ids ≤ 256)
+    OnRoll takenBit (c .gather .last .0) ids × (length ids ≤ 256)
 known c = ids-known _ _ (most (c .before)) (c .gather .ensures .0) (c .gather .ensures .1 .1) (c .gather .ensures .1 .0)
 
 gather-requires : tie.Need-gather-requires
