@@ -31,7 +31,8 @@
  *  10  a base type over 4                    23  the edited table would be refused
  *  11  a cut entry, or the count             24  a query about an unlisted bus, or
  *  12  base types not ascending                  of an unknown kind or type
- *  13  the extended part
+ *  13  the extended part                     25  a slot of a bus that is not PCI,
+ *                                                or no such device or pin
  */
 #ifndef RUXTAJMA_H
 #define RUXTAJMA_H
@@ -57,7 +58,7 @@ static inline unsigned ruxtajma_inner(uint64_t answer)
     return (unsigned)(answer >> 8 & 255);
 }
 
-/* How many bytes, or pairs, were written; or how long an entry is. */
+/* How many bytes, pairs or slots were written; or how long an entry is. */
 static inline size_t ruxtajma_count(uint64_t answer)
 {
     return (size_t)(answer >> 16);
@@ -184,6 +185,26 @@ uint64_t ruxtajma_io_routes(const uint8_t *table, size_t table_length,
 uint64_t ruxtajma_local_routes(const uint8_t *table, size_t table_length,
                                uint8_t type, uint8_t bus, uint8_t irq,
                                uint8_t *room, size_t room_length);
+
+/*
+ * Where the interrupt of a PCI slot goes, given bus, device (0 to 31) and pin (0
+ * INTA# to 3 INTD#): the pairs of the I/O interrupts of type INT whose source IRQ
+ * has that device in bits 2 to 6 and that pin in bits 0 and 1, whatever its bit 7
+ * is; written as by ruxtajma_io_routes.  5 to 18, 24, 25 or 19, or the count of
+ * pairs.
+ */
+uint64_t ruxtajma_slot_routes(const uint8_t *table, size_t table_length,
+                              uint8_t bus, uint8_t device, uint8_t pin,
+                              uint8_t *room, size_t room_length);
+
+/*
+ * The slots that the I/O interrupts of PCI buses name, whatever their type: each
+ * once, rising, as its bus, device and pin, a byte each, from the room's first
+ * byte on, and what lies past them stays.  5 to 18 or 19, or the count of slots.
+ * A room of 1,518 bytes holds them all.
+ */
+uint64_t ruxtajma_slots(const uint8_t *table, size_t table_length,
+                        uint8_t *room, size_t room_length);
 
 /*
  * Whether a bus sees an address of a kind (0 I/O, 1 memory, 2 prefetch).  5 to 18
