@@ -7,11 +7,12 @@ use Rattle.packs.specs.Packs.{packed}
 use Rattle.mps.specs.Answers.{lentNumbers}
 use Rattle.mps.specs.Listing.{listed, listLeft}
 use Rattle.mps.specs.Routes.{Question, routed, routesLeft}
+use Rattle.mps.specs.Slots.{Slot, slotRouted, slotRoutesLeft, slotsListed, slotsLeft}
 use Rattle.mps.specs.Edits.{Edit, edited, editLeft}
 use Rattle.mps.specs.declared.Edited.{Edited}
 use Rattle.exports.specs.Codes.{countRow, refusalIn, lentCode, editedCode}
 use Rattle.exports.proofs.Told.{refused-in}
-use Rattle.promises.proofs.Kept.{list-kept, routes-kept}
+use Rattle.promises.proofs.Kept.{list-kept, routes-kept, slot-kept, slots-kept}
 use Rattle.promises.proofs.Edits.{refused-unchanged}
 
 pub list-kept-c : (d room : List ℕ) → (refusalIn (lentCode (listed d room)) ≡ 0 → ⊥) → listLeft d room ≡ room
@@ -21,6 +22,14 @@ list-kept-c d room h = list-kept d room (refused-in countRow (lentNumbers (liste
 pub routes-kept-c : (q : Question) (t room : List ℕ) → (refusalIn (lentCode (routed q t room)) ≡ 0 → ⊥) → routesLeft q t room ≡ room
 unfolding lentCode
 routes-kept-c q t room h = routes-kept q t room (refused-in countRow (lentNumbers (routed q t room)) h)
+
+pub slot-kept-c : (s : Slot) (t room : List ℕ) → (refusalIn (lentCode (slotRouted s t room)) ≡ 0 → ⊥) → slotRoutesLeft s t room ≡ room
+unfolding lentCode
+slot-kept-c s t room h = slot-kept s t room (refused-in countRow (lentNumbers (slotRouted s t room)) h)
+
+pub slots-kept-c : (t room : List ℕ) → (refusalIn (lentCode (slotsListed t room)) ≡ 0 → ⊥) → slotsLeft t room ≡ room
+unfolding lentCode
+slots-kept-c t room h = slots-kept t room (refused-in countRow (lentNumbers (slotsListed t room)) h)
 
 pub edit-kept-c : (t : List ℕ) (e : Edit) → (refusalIn (editedCode (edited t e)) ≡ 0 → ⊥) → editLeft t e ≡ t
 unfolding editedCode packed

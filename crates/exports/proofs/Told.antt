@@ -22,6 +22,7 @@ use Rattle.mps.specs.Writing.{Parts, image, imageSize, partRules, earlyRefusal,
 use Rattle.mps.specs.Edits.{Edit, editedTable, innerRefusal, editRules, editRefusal, edited}
 use Rattle.mps.specs.Reader.{sizeAt, found}
 use Rattle.mps.specs.Routes.{Question, pairSize, routesOf, lineRules, routeRefusal, routed}
+use Rattle.mps.specs.Slots.{Slot, slotRoutesOf, slotRules, slotRefusal, slotRouted, slotSize, slotsOf, slotsRefusal, slotsListed}
 use Rattle.mps.specs.Addresses.{seenBy, addressRules, seen}
 use Rattle.mps.specs.declared.Held.{Held}
 use Rattle.mps.specs.declared.Held.the-variants.{Default, Table, Refused as Held·Refused}
@@ -37,7 +38,8 @@ use Rattle.dump.proofs.Laws.{held-number, held-table}
 use Rattle.dump.proofs.Narrow.{default-narrow, table-narrow}
 use Rattle.listing.proofs.Longest.{list-most}
 use Rattle.writer.proofs.Most.{written-most}
-use Rattle.routes.proofs.Most.{routes-most}
+use Rattle.routes.proofs.Most.{routes-most, slot-most}
+use Rattle.slots.proofs.Most.{slots-most}
 use Rattle.addresses.proofs.Links.{links-most}
 use Rattle.addresses.proofs.Refuses.{ofSeen, seen-by-raised}
 use Rattle.reader.proofs.Laws.{size-most}
@@ -133,6 +135,25 @@ unfolding routed
 routes-told q t room b =
     lent-told (routeRefusal q t room) (length (routesOf q t) / pairSize) (route-below q t room)
     (λ e. omega (arith, routes-most q t room b e))
+
+slot-below : (s : Slot) (t room : List ℕ) → slotRefusal s t room < 2 ^ 8
+unfolding slotRefusal lentRefusal roomRules slotRules tableRules any
+slot-below s t room = byte-below _ refl
+
+pub slot-told : (s : Slot) (t room : List ℕ) → Bytes t → numbersIn countRow (lentCode (slotRouted s t room)) ≡ lentNumbers (slotRouted s t room)
+unfolding slotRouted
+slot-told s t room b =
+    lent-told (slotRefusal s t room) (length (slotRoutesOf s t) / pairSize) (slot-below s t room)
+    (λ e. omega (arith, slot-most s t room b e))
+
+slots-below : (t room : List ℕ) → slotsRefusal t room < 2 ^ 8
+unfolding slotsRefusal lentRefusal roomRules tableRules any
+slots-below t room = byte-below _ refl
+
+pub slots-told : (t room : List ℕ) → numbersIn countRow (lentCode (slotsListed t room)) ≡ lentNumbers (slotsListed t room)
+unfolding slotsListed
+slots-told t room =
+    lent-told (slotsRefusal t room) (length (slotsOf t) / slotSize) (slots-below t room) (λ e. omega (arith, slots-most t))
 
 -- ---- The entry at a place
 

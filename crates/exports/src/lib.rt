@@ -3,7 +3,7 @@
 // include/ruxtajma.h has the prototypes, what a caller lends, and how an answer is taken apart. Promised of any bytes: each
 // call answers what the call of the library does, as one number, and leaves what was lent as that call leaves it. Which
 // number stands for an answer is in specs/Codes.antt, a row of widths for each kind; the definitions of the answers stand in
-// mps's specs/Judge.antt, Listing.antt, Writing.antt, Edits.antt, Reader.antt, Routes.antt and Addresses.antt.
+// mps's specs/Judge.antt, Listing.antt, Writing.antt, Edits.antt, Reader.antt, Routes.antt, Slots.antt and Addresses.antt.
 //
 // Nothing is lost: of every answer that a call can give, C takes out the numbers that mps's specs/Answers.antt has for it.
 // proofs/Told.antt proves it, a theorem for each call. A function below cuts each value to its width, and so needs to know
@@ -21,6 +21,7 @@ ghost use Rattle.mps.specs.Judge.{judged, held};
 ghost use Rattle.mps.specs.Listing.{listed, listLeft};
 ghost use Rattle.mps.specs.Rules.{ioSide, localSide};
 ghost use Rattle.mps.specs.Routes.{question, routed, routesLeft};
+ghost use Rattle.mps.specs.Slots.{slot, slotRouted, slotRoutesLeft, slotsListed, slotsLeft};
 ghost use Rattle.mps.specs.Addresses.{seen};
 ghost use Rattle.mps.specs.Writing.{written, writeLeft, parted};
 ghost use Rattle.mps.specs.Edits.{edited, editLeft};
@@ -217,6 +218,28 @@ pub extern "C" fn ruxtajma_local_routes(
     ensures { λ _. ⌜ now (room .exit) ≡ routesLeft (question localSide itype bus irq) (now (t .entry)) (now (room .entry)) ⌝ }
 {
     lent_code(routes::local(t, itype, bus, irq, room))
+}
+
+#[no_mangle]
+pub extern "C" fn ruxtajma_slot_routes(
+    t: &[u8],
+    bus: u8,
+    device: u8,
+    pin: u8,
+    room: &mut [u8],
+) -> u64
+    ensures { λ r. ⌜ r ≡ lentCode (slotRouted (slot bus device pin) (now (t .entry)) (now (room .entry))) ⌝ }
+    ensures { λ _. ⌜ now (room .exit) ≡ slotRoutesLeft (slot bus device pin) (now (t .entry)) (now (room .entry)) ⌝ }
+{
+    lent_code(routes::slot(t, bus, device, pin, room))
+}
+
+#[no_mangle]
+pub extern "C" fn ruxtajma_slots(t: &[u8], room: &mut [u8]) -> u64
+    ensures { λ r. ⌜ r ≡ lentCode (slotsListed (now (t .entry)) (now (room .entry))) ⌝ }
+    ensures { λ _. ⌜ now (room .exit) ≡ slotsLeft (now (t .entry)) (now (room .entry)) ⌝ }
+{
+    lent_code(slots::list(t, room))
 }
 
 #[no_mangle]
