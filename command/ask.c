@@ -1,21 +1,20 @@
 /* Questions about a table: where an interrupt line goes, and what a bus sees. */
 #include "mpt.h"
 
-typedef uint64_t side(const uint8_t *table, size_t length, uint8_t type, uint8_t bus,
-                      uint8_t irq, uint8_t *room, size_t room_length);
-
-/* The pairs of one side, a line each. */
-static int ask(side *query, const char *apic, struct bytes table, const uint8_t line[3])
+/* The pairs that a query gives, with `between` between two of them, or the word for none. */
+int ask(query *query, const char *apic, struct bytes table, const uint8_t about[3],
+        const char *between, const char *none)
 {
-    static uint8_t room[1 << 20];       /* holds the pairs of any line */
-    uint64_t answer = query(table.at, table.length, line[0], line[1], line[2], room, sizeof room);
+    static uint8_t room[1 << 20];       /* holds the pairs of any query */
+    uint64_t answer = query(table.at, table.length, about[0], about[1], about[2], room, sizeof room);
 
     if (refused(answer))
         return REFUSAL;
     if (ruxtajma_count(answer) == 0)
-        printf("%s none\n", apic);
+        printf("%s %s", apic, none);
     for (size_t i = 0; i < ruxtajma_count(answer); i++)
-        printf("%s %u input %u\n", apic, room[2 * i], room[2 * i + 1]);
+        printf("%s%s %u input %u", i == 0 ? "" : between, apic, room[2 * i], room[2 * i + 1]);
+    putchar('\n');
     return ANSWER;
 }
 
@@ -28,10 +27,10 @@ int routes(const struct call *call)
     if (call->io && call->local)
         wrong("either --io or --local, or neither for both");
     struct bytes table = taken(call->word[0], FILE_MOST + 1);
-    int status = call->local ? ANSWER : ask(ruxtajma_io_routes, "ioapic", table, line);
+    int status = call->local ? ANSWER : ask(ruxtajma_io_routes, "ioapic", table, line, "\n", "none");
     if (status != ANSWER || call->io)
         return status;
-    return ask(ruxtajma_local_routes, "cpu", table, line);
+    return ask(ruxtajma_local_routes, "cpu", table, line, "\n", "none");
 }
 
 int sees(const struct call *call)

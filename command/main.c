@@ -24,6 +24,13 @@ static const struct verb {
     { "routes", "[--io | --local] TABLE TYPE BUS IRQ",
       "where an interrupt line goes; TYPE is INT, NMI, SMI, EXTINT or a number", "il",
       4, 4, routes, "" },
+    { "slots", "TABLE", "each PCI slot that the table names, and where its interrupt goes", "",
+      1, 1, slots, "" },
+    { "slot", "TABLE BUS DEVICE PIN",
+      "where the interrupt of a PCI slot goes; PIN is A, B, C, D or a number, 0 for INTA#", "",
+      4, 4, slot,
+      "DEVICE is 0 to 31. A, a, INTA, INTA# and 0 are one pin. 'mpt slots' prints the bus, device\n"
+      "and pin of each slot.\n" },
     { "sees", "TABLE BUS KIND ADDRESS",
       "whether a bus sees an address; KIND is io, memory, prefetch or a number", "", 4, 4, sees, "" },
     { "edit", "TABLE PLACE STATED WANTED, or TABLE PLACE STATED --set FIELD=VALUE ..",

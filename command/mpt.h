@@ -74,6 +74,15 @@ char *first_line(const struct table *table);
 char *next_line(char *line);
 const char *line_at(const struct table *table, size_t place);
 
+/*
+ * ask.c: the pairs of a query.  It is about type, bus and IRQ of an interrupt line, or about
+ * bus, device and pin of a PCI slot.
+ */
+typedef uint64_t query(const uint8_t *table, size_t length, uint8_t, uint8_t, uint8_t,
+                       uint8_t *room, size_t room_length);
+int ask(query *query, const char *apic, struct bytes table, const uint8_t about[3],
+        const char *between, const char *none);
+
 /* fields.c: an entry with some of its fields set. */
 struct bytes with_fields(struct bytes entry, const struct call *call);
 
@@ -93,6 +102,8 @@ int judge(const struct call *call);
 int table(const struct call *call);
 int entries(const struct call *call);
 int routes(const struct call *call);
+int slots(const struct call *call);
+int slot(const struct call *call);
 int sees(const struct call *call);
 int edit(const struct call *call);
 int parts(const struct call *call);

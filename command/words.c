@@ -35,6 +35,7 @@ static const char *const says[] = {
     "other bytes stand there now",
     "the edited table would be refused",
     "a bus that is not listed, or no such kind or type",
+    "no such PCI slot: the bus is not PCI, or it has no such device or pin",
 };
 
 /* Wrong words of the user's. */
