@@ -17,7 +17,7 @@ from boards import BENCH, RICH, base_entries, edited, pointer, put
 
 SEED = int(sys.argv[2]) if len(sys.argv) > 2 else 1
 COUNT = int(sys.argv[3]) if len(sys.argv) > 3 else 1000
-VERBS = "list judge table entries routes sees edit parts make dump log".split()
+VERBS = "list judge table entries routes slots slot sees edit parts make dump log".split()
 FIELDS = "id version enabled boot signature features name address type polarity trigger bus irq destination input".split()
 VALUES = ["0", "1", "2", "3", "9", "255", "256", "on", "off", "INT", "extint", "PCI", "ISA", "EISA", "FEC00000", "0x10", "-1", "",
           "FFFFFFFF", "XPRESSX"]
@@ -143,7 +143,7 @@ class Any(harness.Case):
 
     def words(self):
         """A line of one verb, as it should be."""
-        verb, chance = self.chance.choice(VERBS + ["edit"] * 3), self.chance
+        verb, chance = self.chance.choice(VERBS + ["edit"] * 4), self.chance
         out = ["-o", chance.choice(NEW_FILES)] if chance.random() < 0.5 else []
         return {
             "list": lambda: ["list", self.name(".dump")],
@@ -152,6 +152,9 @@ class Any(harness.Case):
             "entries": lambda: ["entries", self.name(".table")],
             "routes": lambda: ["routes", *chance.choice([[], ["--io"], ["--local"]]), self.name(".table"),
                                chance.choice(["INT", "nmi", "ExtINT", *NUMBERS]), chance.choice(NUMBERS), chance.choice(NUMBERS)],
+            "slots": lambda: ["slots", self.name(".table")],
+            "slot": lambda: ["slot", self.name(".table"), chance.choice(NUMBERS), chance.choice(NUMBERS),
+                             chance.choice(["A", "b", "INTC#", "E", *NUMBERS])],
             "sees": lambda: ["sees", self.name(".table"), chance.choice(NUMBERS), chance.choice(["io", "memory", "prefetch", *NUMBERS]),
                              chance.choice(ADDRESSES)],
             "edit": self.edit_words,

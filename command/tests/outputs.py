@@ -82,8 +82,9 @@ class FullOrClosed(harness.Case):
     """An answer that cannot be given is a failure: exit 2."""
 
     LINES = [["list", "board.dump"], ["list", "bad.dump"], ["judge", "board.table"], ["table", "board.dump"], ["entries", "board.table"],
-             ["routes", "board.table", "INT", "0", "1"], ["sees", "board.table", "0", "io", "100"], ["parts", "board.table"],
-             ["dump", "--memory", "board.image"], ["log", "board.table"], ["--help"], ["list", "--help"], ["--version"]]
+             ["routes", "board.table", "INT", "0", "1"], ["slots", "board.table"], ["slot", "board.table", "0", "4", "A"],
+             ["sees", "board.table", "0", "io", "100"], ["parts", "board.table"], ["dump", "--memory", "board.image"], ["log", "board.table"],
+             ["--help"], ["list", "--help"], ["--version"]]
 
     def setUp(self):
         super().setUp()

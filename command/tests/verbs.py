@@ -108,11 +108,12 @@ class Judged(harness.Case):
                 (17, boards.table([cpu0, isa, apic, irq, put(lint, 7, 2)])),
                 (18, boards.table([cpu0, isa], [boards.link(0, 0)]))):
             self.put("bad.table", content)
-            for verb in (["judge"], ["judge", "--table"], ["entries"], ["parts"]):
+            for verb in (["judge"], ["judge", "--table"], ["entries"], ["slots"], ["parts"]):
                 with self.subTest(number=number, verb=verb):
                     self.refuses([*verb, "bad.table"], number)
             with self.subTest(number=number):
                 self.refuses(["routes", "bad.table", "INT", "0", "1"], number)
+                self.refuses(["slot", "bad.table", "0", "4", "A"], number)
                 self.refuses(["sees", "bad.table", "0", "io", "100"], number)
                 self.refuses(["edit", "bad.table", "3", irq.hex(), irq.hex()], number)
                 self.assertEqual(self.files(), {"bad.table": content})

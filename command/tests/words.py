@@ -17,6 +17,8 @@ GOOD = [
     ["entries", "board.table"],
     ["routes", "board.table", "INT", "0", "1"],
     ["routes", "--io", "board.table", "INT", "0", "1"],
+    ["slots", "board.table"],
+    ["slot", "pci.table", "1", "1", "A"],
     ["sees", "board.table", "0", "io", "100"],
     ["edit", "board.table", "3", STATED, WANTED],
     ["edit", "board.table", "3", STATED, "--set", "input=9"],
@@ -42,6 +44,7 @@ class Words(harness.Case):
         self.put("board.dump", boards.rom(body))
         self.put("board.body", body)
         self.put("board.table", BENCH)
+        self.put("pci.table", boards.RICH)
         self.put("first.table", BENCH)
         self.put("board.txt", self.mpt("parts", "-", input=BENCH).out)
         self.put("board.image", bytes(0xF0000) + body + bytes(0x10000 - len(body)))
@@ -126,6 +129,9 @@ class Words(harness.Case):
                 self.wrong(["routes", "board.table", number, "0", "1"])
                 self.wrong(["routes", "board.table", "INT", number, "1"])
                 self.wrong(["routes", "board.table", "INT", "0", number])
+                self.wrong(["slot", "pci.table", number, "1", "A"])
+                self.wrong(["slot", "pci.table", "1", number, "A"])
+                self.wrong(["slot", "pci.table", "1", "1", number])
                 self.wrong(["sees", "board.table", number, "io", "100"])
                 self.wrong(["sees", "board.table", "0", number, "100"])
         for number in NO_NUMBERS:
@@ -183,7 +189,7 @@ class Words(harness.Case):
         long = "F" * 100000
         for words in (["edit", "board.table", "3", long, WANTED], ["edit", "board.table", "3", STATED, long],
                       ["edit", "board.table", long, STATED, WANTED],
-                      ["routes", "board.table", long, "0", "1"], ["sees", "board.table", "0", "io", long], ["list", long], [long],
+                      ["routes", "board.table", long, "0", "1"], ["slot", "pci.table", "1", "1", long], ["sees", "board.table", "0", "io", long], ["list", long], [long],
                       ["dump", "--region", long], ["dump", "--region", f"rom:F0000:{long}"], ["table", "board.dump", "-o", long],
                       ["edit", "board.table", "3", STATED, "--set", f"input={long}"], ["edit", "board.table", "3", STATED, "--set", long]):
             self.assertIn(self.mpt(*words).status, (1, 2))
