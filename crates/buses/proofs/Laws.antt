@@ -1,8 +1,8 @@
 -- Laws of the buses called over the roll: what comes of it in the words of rule 15, and what a loop meets at a place; and
--- of the search for one bus. Assumes nothing.
+-- of the search for one bus, listed or of PCI. Assumes nothing.
 use Prim.Native.Nat.{ℕ, suc, _+_, _-_, _/_, _≤_, _<_}
 use mathlib.Core.Path.{_≡_, refl, sym, _∙_}
-use mathlib.Core.Bool.{Bool, true, false, _||_, or-true, or-false}
+use mathlib.Core.Bool.{Bool, true, false, _||_, _&&_, and-false, or-true, or-false}
 use mathlib.Core.List.{List, [], _∷_}
 use native.Mathlib.Omega.{arith}
 use lib.ListN.{length, getD, take, drop}
@@ -14,12 +14,14 @@ use Rattle.mps.specs.Layout.{Entry, idOf, nameOf}
 use Rattle.mps.specs.Buses.{isBusName}
 use Rattle.mps.specs.Rules.{unknownName}
 use Rattle.mps.specs.Sections.{rows}
+use Rattle.mps.specs.Slots.{isPci}
+use Rattle.laws.proofs.Lists.{any-keep}
 use Rattle.laws.proofs.Parts.{length-part}
 use Rattle.laws.proofs.Rows.{row-byte}
 use Rattle.laws.proofs.Small.{Bytes, Small, below-each}
 use Rattle.numbers.proofs.Laws.{le-split, le-below}
-use Rattle.tables.specs.Quick.{quickName}
-use Rattle.tables.proofs.Laws.{quick-is-name}
+use Rattle.tables.specs.Quick.{pciName, quickName}
+use Rattle.tables.proofs.Laws.{pci-is-name, quick-is-name}
 use Rattle.roll.specs.Roll.{marked, withMarks, Shows}
 use Rattle.roll.specs.Calls.{wrongOne, called}
 use Rattle.roll.proofs.Laws.{called-stop-at, called-next-at, called-wrong, called-all, called-other, keep-every}
@@ -113,3 +115,32 @@ module _ (bus : ℕ) (s : List ℕ) (at : ℕ) where
 
   pub id-other : (getD s (at + 1) 0 ≡ bus → ⊥) → false ≡ hasId bus (take 8 (drop at s))
   id-other n = sym (ne-eqb bus _ (λ q. n (sym (q ∙ row-byte 8 s at 1 (omega arith)))))
+
+-- ---- PCI buses
+
+-- An entry that is lent.
+lent-row : (s : List ℕ) (at : ℕ) → part at (at + 8) s ≡ take 8 (drop at s)
+lent-row s at =
+    let width : at + 8 - at ≡ 8 = omega arith in
+    rw width
+
+pub pci-named : (e : Entry) → length e ≡ 8 → Bytes e → pciName (le 8 e 0 / 65536) ≡ isPci e
+unfolding isPci
+pci-named e l b = rw (name-number e b) (pci-is-name e 2 (omega (arith, l)) b)
+
+-- Whether an entry is of a PCI bus with this ID.
+abbrev pub pciWithId : ℕ → Entry → Bool
+pciWithId bus e = isPci e && hasId bus e
+
+pub pci-among : (bus : ℕ) (es : List Entry) → any (pciWithId bus) es ≡ among bus (each idOf (keep isPci es))
+pci-among bus es = sym (any-keep (hasId bus) isPci es) ∙ ids-among bus (keep isPci es)
+
+module _ (bus : ℕ) (s : List ℕ) (at : ℕ) where
+  pub pci-here : idOf (part at (at + 8) s) ≡ bus → isPci (part at (at + 8) s) ≡ true → true ≡ pciWithId bus (take 8 (drop at s))
+  pci-here q t = rw (← lent-row s at, t, eq-eqb bus _ (sym q))
+
+  pub pci-other-id : (idOf (part at (at + 8) s) ≡ bus → ⊥) → false ≡ pciWithId bus (take 8 (drop at s))
+  pci-other-id n = rw (← lent-row s at, ne-eqb bus _ (λ q. n (sym q)), and-false)
+
+  pub pci-other-name : isPci (part at (at + 8) s) ≡ false → false ≡ pciWithId bus (take 8 (drop at s))
+  pci-other-name f = rw (← lent-row s at, f)

@@ -1,16 +1,17 @@
-// What buses must say: refusal 15, and whether a bus is listed.
+// What buses must say: refusal 15, and which buses are listed, and which of them are PCI buses.
 //
-// Both public functions go once over the bus entries, as the bytes that they are, one behind the other; bytes that are left
+// Each public function goes once over the bus entries, as the bytes that they are, one behind the other; bytes that are left
 // at the end and are no whole entry are not looked at. Promised of any roll and any bytes: `wrong` answers and leaves what the
-// call of specs/Buses.antt over the roll does, and `is_listed` answers whether a bus is among the IDs. proofs/Laws.antt says
-// what the call means in the words of the rule, and what the roll then shows.
+// call of specs/Buses.antt over the roll does, `is_listed` answers whether a bus is among the IDs, and `is_pci` whether it is
+// among those of PCI buses. proofs/Laws.antt says what the call means in the words of the rule, and what the roll then shows.
 use mps::layout;
 ghost use Prim.Native.Nat.{_*_, _≤_};
 ghost use mathlib.Core.Path.{_≡_};
 ghost use lib.ListN.{length, drop};
-ghost use Rattle.mps.specs.Words.{among, each};
+ghost use Rattle.mps.specs.Words.{among, keep, each};
 ghost use Rattle.mps.specs.Layout.{entrySize, idOf};
 ghost use Rattle.mps.specs.Sections.{rows};
+ghost use Rattle.mps.specs.Slots.{isPci};
 ghost use Rattle.roll.specs.Calls.{called};
 ghost use Rattle.buses.specs.Buses.{busCall};
 
@@ -72,6 +73,31 @@ pub fn is_listed(s: &[u8], bus: u8) -> bool
     while layout::ENTRY_SIZE <= s.len() - at {
         if s[at + layout::ENTRY_ID] == bus {
             return true;
+        }
+        at += layout::ENTRY_SIZE;
+    }
+    false
+}
+
+// Whether an entry is of a PCI bus. The name is the upper six bytes of eight, as above.
+fn names_pci(e: &[u8]) -> bool
+    requires { ⌜ length (now e) ≡ entrySize ⌝ }
+    ensures { λ r. ⌜ r ≡ isPci (now (e .entry)) ⌝ }
+{
+    tables::names::is_pci(numbers::le64(e, 0) / 65536)
+}
+
+// Whether a bus is among those named "PCI". The name is looked at only where the ID is the one asked for.
+pub fn is_pci(s: &[u8], bus: u8) -> bool
+    ensures { λ r. ⌜ r ≡ among bus (each idOf (keep isPci (rows entrySize (now (s .entry))))) ⌝ }
+{
+    let mut at = 0;
+    while layout::ENTRY_SIZE <= s.len() - at {
+        let e = &s[at..at + layout::ENTRY_SIZE];
+        if e[layout::ENTRY_ID] == bus {
+            if names_pci(e) {
+                return true;
+            }
         }
         at += layout::ENTRY_SIZE;
     }

@@ -5,7 +5,7 @@ use mathlib.Core.Bool.{Bool, true, false, cond, true≢false}
 use mathlib.Core.List.{List}
 use native.Mathlib.Omega.{arith}
 use lib.ListN.{length}
-use Rattle.mps.specs.Words.{head, among, each, part}
+use Rattle.mps.specs.Words.{head, among, keep, each, part}
 use Rattle.mps.specs.Refusals.{refusal}
 use Rattle.mps.specs.Answers.{examinedOf, examinedNumbers}
 use Rattle.mps.specs.Layout.{entrySize, busType, idOf, baseEntries, extendedEntries}
@@ -13,6 +13,7 @@ use Rattle.mps.specs.Table.{wrongExtendedPart, walkFrom, wrongExtended, extende
 use Rattle.mps.specs.Rules.{isListed, idsOf}
 use Rattle.mps.specs.Sections.{rows, sections}
 use Rattle.mps.specs.Judge.{tableRefusal, judged, examined}
+use Rattle.mps.specs.Slots.{isPci, pciBuses, onPci}
 use Rattle.mps.specs.declared.Sections.{Sections}
 use Rattle.mps.specs.declared.Judged.the-variants.{Accepted, Refused as Judged·Refused}
 use Rattle.mps.specs.declared.Examined.{Examined}
@@ -116,6 +117,17 @@ pub placed-listed : (t : List ℕ) (p : Sections) → Placed t p → (bus : ℕ)
     → isListed (baseEntries t) bus ≡ among bus (each idOf (rows entrySize (part (p .buses) (p .ioapics) t)))
 unfolding isListed idsOf
 placed-listed t p places bus = rw (places .buses)
+
+-- Those that are PCI buses, and whether one of them is.
+pub placed-pci-buses : (t : List ℕ) (p : Sections) → Placed t p
+    → pciBuses (baseEntries t) ≡ each idOf (keep isPci (rows entrySize (part (p .buses) (p .ioapics) t)))
+unfolding pciBuses
+placed-pci-buses t p places = rw (places .buses)
+
+pub placed-pci : (t : List ℕ) (p : Sections) → Placed t p → (bus : ℕ)
+    → onPci (baseEntries t) bus ≡ among bus (each idOf (keep isPci (rows entrySize (part (p .buses) (p .ioapics) t))))
+unfolding onPci
+placed-pci t p places bus = rw (placed-pci-buses t p places)
 
 pub placed-buses : (t : List ℕ) (p : Sections) → Placed t p → length (idsOf busType (baseEntries t)) ≡ (p .ioapics - p .buses) / entrySize
 unfolding idsOf

@@ -7,15 +7,16 @@ use native.Mathlib.Omega.{arith}
 use native.Mathlib.Nat.{zero-add, add-zero, add-suc, suc-add, not-suc-le-zero, le-of-suc-le-suc, mod-mod}
 use lib.ListN.{length, getD, take, drop, getD-replicate, List·getD-map}
 use lib.Dec.{eqb}
-use borrow.Author.Tests.{eqb-true}
+use borrow.Author.Tests.{eq-eqb, eqb-true}
 use Rattle.mps.specs.Words.{text, bit, flag, same, any, every}
 use Rattle.mps.specs.Numbers.{le, bytes}
 use Rattle.mps.specs.Buses.{busNames, isBusName}
 use Rattle.mps.specs.Ranges.{isa, vga, rangesAt, printedIsa, printedVga}
-use Rattle.laws.proofs.Tests.{and-parts, either}
+use Rattle.laws.proofs.Tests.{same-test, and-parts, either}
 use Rattle.laws.proofs.Small.{Bytes}
-use Rattle.numbers.proofs.Laws.{bytes-le}
-use Rattle.tables.specs.Quick.{quickNames, quickName}
+use Rattle.numbers.proofs.Laws.{le-row, bytes-le}
+use Rattle.slices.proofs.Laws.{same-is, same-true}
+use Rattle.tables.specs.Quick.{pciName, quickNames, quickName}
 
 -- ---- values: a function written out as a table
 
@@ -46,7 +47,19 @@ pub names-six : (k : ℕ) → k < 18 → length (getD busNames k []) ≡ 6
 unfolding busNames text
 names-six k h = sym (List·getD-map length busNames k []) ∙ getD-replicate 18 k 6 0 h
 
--- ---- quickName
+-- ---- Names as numbers
+
+-- Six bytes have the number of "PCI   " exactly where they are that name.
+pub pci-is-name :
+    (s : List ℕ) (at : ℕ) → at + 6 ≤ length s → Bytes s → pciName (le 6 s at) ≡ same (take 6 (drop at s)) (text "PCI   ")
+unfolding pciName text le bytes
+pci-is-name s at h b =
+    let name = text "PCI   " in
+    let piece = take 6 (drop at s) in
+    let whole : le 6 piece 0 ≡ le 6 s at = rw (add-zero at) at (le-row 6 6 s at 0 (omega arith)) in
+    same-test _ _
+    (λ t. same-is piece name (sym (bytes-le 6 s at h b) ∙ ap (bytes 6) (eqb-true (le 6 s at) (le 6 name 0) t)))
+    (λ t. eq-eqb (le 6 s at) (le 6 name 0) (sym whole ∙ ap (λ (l : List ℕ). le 6 l 0) (same-true piece name t)))
 
 -- Six bytes that have the number of a quick name are one of the names.
 pub quick-is-name :

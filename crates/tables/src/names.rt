@@ -1,7 +1,7 @@
 // MPS Table 4-8, the names of buses.
 ghost use mathlib.Core.Path.{_≡_};
 ghost use Rattle.mps.specs.Buses.{isBusName};
-ghost use Rattle.tables.specs.Quick.{quickName};
+ghost use Rattle.tables.specs.Quick.{pciName, quickName};
 
 const NAMES: [[u8; 6]; 18] = [
     *b"CBUS  ",
@@ -41,9 +41,19 @@ pub fn is_bus_name(name: &[u8]) -> bool
     false
 }
 
-// Whether a number is "PCI   " or "ISA   ", little endian. What is so is one of the names; what is not is looked up.
+// "PCI   ", little endian.
+const PCI: u64 = 0x202020494350;
+
+// Whether a number is that of "PCI   ".
+pub fn is_pci(name: u64) -> bool
+    ensures { λ r. ⌜ r ≡ pciName name ⌝ }
+{
+    name == PCI
+}
+
+// Whether a number is that of "PCI   " or "ISA   ". What is so is one of the names; what is not is looked up.
 pub fn quick(name: u64) -> bool
     ensures { λ r. ⌜ r ≡ quickName name ⌝ }
 {
-    (name == 0x202020494350) | (name == 0x202020415349)
+    (name == PCI) | (name == 0x202020415349)
 }
