@@ -1,5 +1,5 @@
 -- Laws of the buses called over the roll: what comes of it in the words of rule 15, and what a loop meets at a place; and
--- of the search for one bus, listed or of PCI. Assumes nothing.
+-- of the search for one bus, listed or of PCI, and of the PCI buses put on a roll. Assumes nothing.
 use Prim.Native.Nat.{ℕ, suc, _+_, _-_, _/_, _≤_, _<_}
 use mathlib.Core.Path.{_≡_, refl, sym, _∙_}
 use mathlib.Core.Bool.{Bool, true, false, _||_, _&&_, and-false, or-true, or-false}
@@ -15,14 +15,14 @@ use Rattle.mps.specs.Buses.{isBusName}
 use Rattle.mps.specs.Rules.{unknownName}
 use Rattle.mps.specs.Sections.{rows}
 use Rattle.mps.specs.Slots.{isPci}
-use Rattle.laws.proofs.Lists.{any-keep}
+use Rattle.laws.proofs.Lists.{any-keep, keep-in, keep-out}
 use Rattle.laws.proofs.Parts.{length-part}
-use Rattle.laws.proofs.Rows.{row-byte}
+use Rattle.laws.proofs.Rows.{rows-done, rows-next, row-byte}
 use Rattle.laws.proofs.Small.{Bytes, Small, below-each}
 use Rattle.numbers.proofs.Laws.{le-split, le-below}
 use Rattle.tables.specs.Quick.{pciName, quickName}
 use Rattle.tables.proofs.Laws.{pci-is-name, quick-is-name}
-use Rattle.roll.specs.Roll.{marked, withMarks, Shows}
+use Rattle.roll.specs.Roll.{busBit, marked, withMarks, Shows, enrolled}
 use Rattle.roll.specs.Calls.{wrongOne, called}
 use Rattle.roll.proofs.Laws.{called-stop-at, called-next-at, called-wrong, called-all, called-other, keep-every}
 use Rattle.buses.specs.Buses.{busCall}
@@ -144,3 +144,30 @@ module _ (bus : ℕ) (s : List ℕ) (at : ℕ) where
 
   pub pci-other-name : isPci (part at (at + 8) s) ≡ false → false ≡ pciWithId bus (take 8 (drop at s))
   pci-other-name f = rw (← lent-row s at, f)
+
+-- What the loop that puts them on a roll keeps: with the rows left it comes to those of all.
+abbrev pub Enrolls : List ℕ → List ℕ → List ℕ → ℕ → Type 0
+Enrolls roll₀ s roll at =
+    (enrolled busBit roll (each idOf (keep isPci (rows 8 (drop at s)))) ≡ enrolled busBit roll₀ (each idOf (keep isPci (rows 8 s))))
+    × (at ≤ length s)
+
+module _ (roll₀ s roll : List ℕ) (at : ℕ) (inv : Enrolls roll₀ s roll at) where
+  pub enrolls-done : length s - at < 8 → roll ≡ enrolled busBit roll₀ (each idOf (keep isPci (rows 8 s)))
+  unfolding enrolled keep each
+  enrolls-done f = rw (rows-done 8 s at (inv .1) f) at (inv .0)
+
+  module _ (f : 8 ≤ length s - at) where
+    abbrev behind : List Entry
+    behind = rows 8 (drop (at + 8) s)
+
+    first : rows 8 (drop at s) ≡ part at (at + 8) s ∷ behind
+    first = rows-next 8 s at (omega arith) (inv .1) f ∙ rw (lent-row s at)
+
+    pub enrolls-on :
+        {next : List ℕ} → isPci (part at (at + 8) s) ≡ true → next ≡ withMarks 8 roll (idOf (part at (at + 8) s))
+        → Enrolls roll₀ s next (at + 8)
+    unfolding enrolled each
+    enrolls-on t e = (rw e (rw (first, keep-in isPci (part at (at + 8) s) behind t) at (inv .0)), omega (arith, f, inv .1))
+
+    pub enrolls-off : isPci (part at (at + 8) s) ≡ false → Enrolls roll₀ s roll (at + 8)
+    enrolls-off t = (rw (first, keep-out isPci (part at (at + 8) s) behind t) at (inv .0), omega (arith, f, inv .1))

@@ -2,8 +2,9 @@
 //
 // Each public function goes once over the bus entries, as the bytes that they are, one behind the other; bytes that are left
 // at the end and are no whole entry are not looked at. Promised of any roll and any bytes: `wrong` answers and leaves what the
-// call of specs/Buses.antt over the roll does, `is_listed` answers whether a bus is among the IDs, and `is_pci` whether it is
-// among those of PCI buses. proofs/Laws.antt says what the call means in the words of the rule, and what the roll then shows.
+// call of specs/Buses.antt over the roll does, `is_listed` answers whether a bus is among the IDs, `is_pci` whether it is among
+// those of PCI buses, and `pci` leaves those on the roll. proofs/Laws.antt says what the call means in the words of the rule,
+// and what the roll then shows.
 use mps::layout;
 ghost use Prim.Native.Nat.{_*_, _≤_};
 ghost use mathlib.Core.Path.{_≡_};
@@ -12,6 +13,7 @@ ghost use Rattle.mps.specs.Words.{among, keep, each};
 ghost use Rattle.mps.specs.Layout.{entrySize, idOf};
 ghost use Rattle.mps.specs.Sections.{rows};
 ghost use Rattle.mps.specs.Slots.{isPci};
+ghost use Rattle.roll.specs.Roll.{busBit, enrolled};
 ghost use Rattle.roll.specs.Calls.{called};
 ghost use Rattle.buses.specs.Buses.{busCall};
 
@@ -102,4 +104,19 @@ pub fn is_pci(s: &[u8], bus: u8) -> bool
         at += layout::ENTRY_SIZE;
     }
     false
+}
+
+// For those who ask about many buses: the PCI buses are put on the roll as buses.
+pub fn pci(roll: &mut [u8; 256], s: &[u8])
+    ensures { λ _. ⌜ now (roll .exit) ≡ enrolled busBit (now (roll .entry)) (each idOf (keep isPci (rows entrySize (now (s .entry))))) ⌝ }
+{
+    let mut at = 0;
+    while layout::ENTRY_SIZE <= s.len() - at {
+        let e = &s[at..at + layout::ENTRY_SIZE];
+        if names_pci(e) {
+            let bus = e[layout::ENTRY_ID];
+            roll::put(roll, bus, roll::BUS_MARK);
+        }
+        at += layout::ENTRY_SIZE;
+    }
 }
