@@ -29,21 +29,24 @@ use Rattle.buses.specs.Buses.{busCall}
 
 -- ---- At a place of a slice
 
--- A bus that has an ID that is taken, an unknown name, or neither; the entry as it is lent.
-module _ (roll s : List ℕ) (at : ℕ) (h : at + 8 ≤ length s) where
-  width : at + 8 - at ≡ 8
-  width = omega arith
+-- An entry as it is lent.
+lent-row : (s : List ℕ) (at : ℕ) → part at (at + 8) s ≡ take 8 (drop at s)
+lent-row s at =
+    let width : at + 8 - at ≡ 8 = omega arith in
+    rw width
 
+-- A bus that has an ID that is taken, an unknown name, or neither.
+module _ (roll s : List ℕ) (at : ℕ) (h : at + 8 ≤ length s) where
   pub taken-at : marked 3 roll (idOf (part at (at + 8) s)) ≡ true → called busCall roll (rows 8 (drop at s)) ≡ record { wrong = true; roll = roll }
   unfolding busCall wrongOne
-  taken-at t = called-stop-at busCall roll 8 s at (omega arith) (omega arith) (omega arith) (rw (rw width at t))
+  taken-at t = called-stop-at busCall roll 8 s at (omega arith) (omega arith) (omega arith) (rw (rw (lent-row s at) at t))
 
   pub unknown-at : isBusName (nameOf (part at (at + 8) s)) ≡ false → called busCall roll (rows 8 (drop at s)) ≡ record { wrong = true; roll = roll }
   unfolding busCall wrongOne unknownName
   unknown-at u =
       let e = take 8 (drop at s) in
       called-stop-at busCall roll 8 s at (omega arith) (omega arith) (omega arith)
-      (rw (rw width at u) (or-true (marked 3 roll (idOf e))))
+      (rw (rw (lent-row s at) at u) (or-true (marked 3 roll (idOf e))))
 
   pub new-at :
       {next : List ℕ}
@@ -53,7 +56,7 @@ module _ (roll s : List ℕ) (at : ℕ) (h : at + 8 ≤ length s) where
   unfolding busCall wrongOne unknownName
   new-at t u e =
       called-next-at busCall roll 8 s at (omega arith) (omega arith) (omega arith)
-      (rw (rw width at t, rw width at u)) (rw width at e)
+      (rw (rw (lent-row s at) at t, rw (lent-row s at) at u)) (rw (lent-row s at) at e)
 
 -- The name of an entry that is read as one number.
 name-number : (e : Entry) → Bytes e → le 8 e 0 / 65536 ≡ le 6 e 2
@@ -117,12 +120,6 @@ module _ (bus : ℕ) (s : List ℕ) (at : ℕ) where
   id-other n = sym (ne-eqb bus _ (λ q. n (sym (q ∙ row-byte 8 s at 1 (omega arith)))))
 
 -- ---- PCI buses
-
--- An entry that is lent.
-lent-row : (s : List ℕ) (at : ℕ) → part at (at + 8) s ≡ take 8 (drop at s)
-lent-row s at =
-    let width : at + 8 - at ≡ 8 = omega arith in
-    rw width
 
 pub pci-named : (e : Entry) → length e ≡ 8 → Bytes e → pciName (le 8 e 0 / 65536) ≡ isPci e
 unfolding isPci
