@@ -1,4 +1,5 @@
 pub mod Computed
 pub mod Printed
 pub mod Cases
+pub mod Slots
 pub mod Bench

@@ -27,7 +27,7 @@ got r = r .got
 abbrev pub wanted : Row → List ℕ
 wanted r = r .wanted
 
-abbrev gives : List ℕ → List ℕ → Row
+abbrev pub gives : List ℕ → List ℕ → Row
 gives a b = record { got = a; wanted = b }
 
 -- A room of four bytes that hold EEh.

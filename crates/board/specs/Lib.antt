@@ -1,3 +1,4 @@
 pub mod Board
 pub mod Cases
+pub mod Slots
 pub mod Printed
