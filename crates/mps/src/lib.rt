@@ -60,8 +60,8 @@ pub enum Held {
     Refused(u8),
 }
 
-// The answer of a call that is lent a room: how many stand in it, bytes of a listing or of a new table, or pairs of a route;
-// or the number of the refusal. What the room then holds is said in specs/Rooms.antt.
+// The answer of a call that is lent a room: how many stand in it, bytes of a listing or of a new table, pairs of a
+// route, or slots; or the number of the refusal. What the room then holds is said in specs/Rooms.antt.
 pub enum Lent {
     Count(usize),
     Refused(u8),
