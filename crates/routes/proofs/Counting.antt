@@ -1,45 +1,42 @@
 -- Laws of what the passes over a side's entries do: ask an entry, count what it names, gather the IDs. Assumes nothing.
 use Prim.Native.Nat.{ℕ, _+_, _-_, _*_, _%_, _≤_, _<_}
-use mathlib.Core.Path.{_≡_, refl, ap, sym, _∙_}
-use mathlib.Core.Bool.{Bool, true, false, _&&_, _||_, and-true, and-false, or-false, or-assoc}
+use mathlib.Core.Path.{_≡_, ap, sym, _∙_}
+use mathlib.Core.Bool.{Bool, true, false, cond, _&&_, and-true, and-false}
 use mathlib.Core.List.{List, [], _∷_}
 use native.Mathlib.Omega.{arith}
 use native.Mathlib.Numerals.{add-one}
 use lib.Dec.{eqb}
-use lib.ListN.{length, getD, set, take, drop, replicate, length-replicate}
+use lib.ListN.{length, getD, set, take, drop}
 use lib.Seq.{sets}
 use borrow.Author.Tests.{eq-eqb, ne-eqb}
-use Rattle.mps.specs.Words.{bit, among, keep, each}
+use Rattle.mps.specs.Words.{among, keep, each}
 use Rattle.mps.specs.Sums.{total}
 use Rattle.mps.specs.Layout.{Entry, enabled}
 use Rattle.mps.specs.Sections.{rows}
-use Rattle.mps.specs.Routes.{asked}
-use Rattle.laws.proofs.Tests.{whether, or-swap}
+use Rattle.laws.proofs.Tests.{whether}
 use Rattle.laws.proofs.Lists.{keep-in, keep-out}
 use Rattle.laws.proofs.Rows.{rows-done, rows-next, row-byte}
 use Rattle.apics.proofs.Laws.{row-enabled}
 use Rattle.roll.specs.Roll.{takenBit, marked, withMarks, enrolled, OnRoll}
-use Rattle.routes.specs.Pairs.{enabledIn, named, countIn}
+use Rattle.routes.specs.Pairs.{busSlots, wired, enabledIn, named, countIn}
 
--- ---- asked
+-- ---- wired
 
-module _ (itype bus irq : ℕ) (s : List ℕ) (at : ℕ) where
-  asked-by :
-      asked itype bus irq (take 8 (drop at s))
-      ≡ (eqb (getD s (at + 1) 0) itype && eqb (getD s (at + 4) 0) bus && eqb (getD s (at + 5) 0) irq)
-  unfolding asked
-  asked-by =
+-- The IRQ's byte, or what its low bits are: `own`.
+module _ (itype bus irq : ℕ) (low : Bool) (s : List ℕ) (at : ℕ) {own : ℕ} (f : own ≡ cond low (getD s (at + 5) 0 % busSlots) (getD s (at + 5) 0)) where
+  wired-by : wired itype bus irq low (take 8 (drop at s)) ≡ (eqb (getD s (at + 1) 0) itype && eqb (getD s (at + 4) 0) bus && eqb own irq)
+  unfolding wired
+  wired-by =
       let row = row-byte 8 s at in
-      rw (row 1 (omega arith), row 4 (omega arith), row 5 (omega arith))
+      rw (row 1 (omega arith), row 4 (omega arith), row 5 (omega arith), f)
 
   -- The IRQ is another, or the rest decides.
-  pub asked-other : (getD s (at + 5) 0 ≡ irq → ⊥) → false ≡ asked itype bus irq (take 8 (drop at s))
-  asked-other n = rw (asked-by, ne-eqb (getD s (at + 5) 0) irq n) (sym (and-false (eqb (getD s (at + 1) 0) itype && eqb (getD s (at + 4) 0) bus)))
+  pub wired-other : (own ≡ irq → ⊥) → false ≡ wired itype bus irq low (take 8 (drop at s))
+  wired-other n = rw (wired-by, ne-eqb own irq n) (sym (and-false (eqb (getD s (at + 1) 0) itype && eqb (getD s (at + 4) 0) bus)))
 
-  pub asked-rest :
-      getD s (at + 5) 0 ≡ irq
-      → (eqb (getD s (at + 1) 0) itype && eqb (getD s (at + 4) 0) bus) ≡ asked itype bus irq (take 8 (drop at s))
-  asked-rest e = rw (asked-by, eq-eqb (getD s (at + 5) 0) irq e) (sym (and-true (eqb (getD s (at + 1) 0) itype && eqb (getD s (at + 4) 0) bus)))
+  pub wired-rest :
+      own ≡ irq → (eqb (getD s (at + 1) 0) itype && eqb (getD s (at + 4) 0) bus) ≡ wired itype bus irq low (take 8 (drop at s))
+  wired-rest e = rw (wired-by, eq-eqb own irq e) (sym (and-true (eqb (getD s (at + 1) 0) itype && eqb (getD s (at + 4) 0) bus)))
 
 -- ---- named: all of the IDs, or, by the answer of the roll that they are on, one or none
 

@@ -1,32 +1,27 @@
 -- What an accepted table's routes are, by the IDs of its enabled APICs. Assumes nothing.
-use Prim.Native.Nat.{ℕ, _*_, _/_}
-use mathlib.Core.Path.{_≡_, refl, ap, sym, _∙_}
-use mathlib.Core.Bool.{Bool, true, false}
+use Prim.Native.Nat.{ℕ, _+_, _*_, _/_, _%_, _<_}
+use mathlib.Core.Path.{_≡_, refl, ap, sym, fun-ext}
+use mathlib.Core.Bool.{Bool, true, false, _&&_, and-assoc}
 use mathlib.Core.List.{List, [], _∷_}
 use native.Mathlib.Omega.{arith}
 use lib.ListN.{length, length-append}
 use lib.Dec.{eqb}
-use borrow.Author.Tests.{eqb-true}
-use Rattle.mps.specs.Words.{keep, each, joined, among, only, first, twice, part}
+use borrow.Author.Tests.{eq-eqb, eqb-true}
+use Rattle.mps.specs.Words.{keep, each, joined, among, only, twice, part}
 use Rattle.mps.specs.Sums.{total}
-use Rattle.mps.specs.Refusals.{_when_, refusal, queryNumber}
-use Rattle.mps.specs.Rooms.{tooSmall, fitted, fitLeft}
-use Rattle.mps.specs.Layout.{Entry, ofType, headerSize, processorSize, entrySize, idOf, enabled, destination, everyone, baseEntries}
+use Rattle.mps.specs.Layout.{Entry, ofType, ioApicType, ioInterruptType, headerSize, processorSize, entrySize, idOf, enabled, interruptType, vectored, sourceIrq, pins, devices, destination, everyone, baseEntries}
 use Rattle.mps.specs.Rules.{ioSide, localSide, Side, enabledOf, enabledIds}
 use Rattle.mps.specs.Sections.{rows}
-use Rattle.mps.specs.Judge.{tableRules, tableRefusal}
-use Rattle.mps.specs.Routes.{Question, question, asked, matches, names, pair, pairSize, pairsTo, routes, routesOf, wrongLine, lineRules, routeRefusal, routed, routesLeft}
+use Rattle.mps.specs.Judge.{tableRefusal}
+use Rattle.mps.specs.Routes.{question, asked, matches, names, pair, pairSize, pairsTo, routes, routesOf}
+use Rattle.mps.specs.Slots.{slot, namesSlot, wiredFrom, slotRoutes, slotRoutesOf}
 use Rattle.mps.specs.declared.Sections.{Sections}
-use Rattle.mps.specs.declared.Lent.{Lent}
-use Rattle.mps.specs.declared.Lent.the-variants.{Refused}
-use Rattle.laws.proofs.Tests.{whether, or-parts}
-use Rattle.laws.proofs.Refusals.{number, first-some, first-none, refusal-append, refusal-stop, refusal-go, refusal-end}
-use Rattle.laws.proofs.Lent.{lent-early, lent-none, left-kept, lent-refused, fit-late}
+use Rattle.laws.proofs.Tests.{whether, same-test, and-parts, or-parts}
 use Rattle.laws.proofs.Lists.{keep-keep}
 use Rattle.laws.proofs.Joined.{joined-same}
 use Rattle.judge.specs.Placed.{Placed}
 use Rattle.accepted.proofs.Obeyed.{obeyed}
-use Rattle.routes.specs.Pairs.{enabledIn, named, pairsFor, pairsIn, countIn}
+use Rattle.routes.specs.Pairs.{busSlots, wired, pairsOf, enabledIn, named, pairsFor, pairsIn, countIn}
 
 -- ---- Names: of APICs of which no two have one ID, an entry names all, one, or none
 
@@ -79,12 +74,6 @@ pairs-count ids p es = length-joined ids (keep p es)
 
 -- ---- The routes of a table, between its places
 
--- The entries of a side that are asked about.
-matched : (q : Question) (es : List Entry)
-    → keep (asked (q .itype) (q .bus) (q .irq)) (keep (ofType (q .side .interrupts)) es) ≡ keep (matches q) es
-unfolding matches
-matched q es = keep-keep (asked (q .itype) (q .bus) (q .irq)) (ofType (q .side .interrupts)) es
-
 -- The targets of a side stand in one part of the table, and its interrupts in another.
 module _ (t : List ℕ) (side : Side) (n : ℕ) (s : List ℕ) (targets : keep (ofType (side .targets)) (baseEntries t) ≡ rows n s)
     (apart : twice (enabledIds (side .targets) (baseEntries t)) ≡ false) where
@@ -92,14 +81,13 @@ module _ (t : List ℕ) (side : Side) (n : ℕ) (s : List ℕ) (targets : keep (
   unfolding enabledIn enabledIds enabledOf
   side-apart = rw (← targets) apart
 
-  side-routes : (u : List ℕ) → keep (ofType (side .interrupts)) (baseEntries t) ≡ rows entrySize u → (itype bus irq : ℕ)
-      → routesOf (question side itype bus irq) t ≡ pairsIn (enabledIn n s) (asked itype bus irq) (rows entrySize u)
-  unfolding routesOf routes pairsIn enabledIn enabledIds enabledOf pairsTo pairsFor
-  side-routes u interrupts itype bus irq =
-      let q = question side itype bus irq in
-      rw (← interrupts, ← targets, matched q (baseEntries t))
+  side-pairs : (u : List ℕ) → keep (ofType (side .interrupts)) (baseEntries t) ≡ rows entrySize u → (p : Entry → Bool)
+      → pairsOf side p t ≡ pairsIn (enabledIn n s) p (rows entrySize u)
+  unfolding pairsOf pairsIn enabledIn enabledIds enabledOf pairsTo pairsFor
+  side-pairs u interrupts p =
+      rw (← interrupts, ← targets, keep-keep p (ofType (side .interrupts)) (baseEntries t))
       (joined-same _ _ (λ e. ap (joined (pair e)) (named-ids e (keep enabled (keep (ofType (side .targets)) (baseEntries t))) apart))
-      (keep (matches q) (baseEntries t)))
+      (keep (λ (e : Entry). ofType (side .interrupts) e && p e) (baseEntries t)))
 
 module _ (t : List ℕ) (p : Sections) (placed : Placed t p) (a : tableRefusal t ≡ 0) where
   pub io-apart : twice (enabledIn entrySize (part (p .ioapics) (p .interrupts) t)) ≡ false
@@ -108,57 +96,48 @@ module _ (t : List ℕ) (p : Sections) (placed : Placed t p) (a : tableRefusal t
   pub local-apart : twice (enabledIn processorSize (part headerSize (p .buses) t)) ≡ false
   local-apart = side-apart t localSide processorSize _ (placed .processors) (obeyed t a .processors)
 
-  pub io-routes : (itype bus irq : ℕ)
-      → routesOf (question ioSide itype bus irq) t
-      ≡ pairsIn (enabledIn entrySize (part (p .ioapics) (p .interrupts) t)) (asked itype bus irq) (rows entrySize (part (p .interrupts) (p .locals) t))
-  io-routes = side-routes t ioSide entrySize _ (placed .ioapics) (obeyed t a .ioapics) _ (placed .interrupts)
+  module _ (test : Entry → Bool) where
+    pub io-pairs :
+        pairsOf ioSide test t
+        ≡ pairsIn (enabledIn entrySize (part (p .ioapics) (p .interrupts) t)) test (rows entrySize (part (p .interrupts) (p .locals) t))
+    io-pairs = side-pairs t ioSide entrySize _ (placed .ioapics) (obeyed t a .ioapics) _ (placed .interrupts) test
 
-  pub local-routes : (itype bus irq : ℕ)
-      → routesOf (question localSide itype bus irq) t
-      ≡ pairsIn (enabledIn processorSize (part headerSize (p .buses) t)) (asked itype bus irq) (rows entrySize (part (p .locals) (p .mappings) t))
-  local-routes = side-routes t localSide processorSize _ (placed .processors) (obeyed t a .processors) _ (placed .locals)
+    pub local-pairs :
+        pairsOf localSide test t
+        ≡ pairsIn (enabledIn processorSize (part headerSize (p .buses) t)) test (rows entrySize (part (p .locals) (p .mappings) t))
+    local-pairs = side-pairs t localSide processorSize _ (placed .processors) (obeyed t a .processors) _ (placed .locals) test
 
--- ---- The query: the table's own number, then 24, then 19
+-- ---- What a query asks of an entry
 
--- An answer of pairs in a lent room.
-abbrev pub paired : List ℕ → List ℕ → Lent
-paired pairs room = fitted pairs (length pairs / pairSize) room
+-- A question compares the whole IRQ.
+pub line-pairs : (side : Side) (itype bus irq : ℕ) (t : List ℕ)
+    → routesOf (question side itype bus irq) t ≡ pairsOf side (wired itype bus irq false) t
+unfolding routesOf routes matches asked pairsOf wired
+line-pairs side itype bus irq t = refl
 
-module _ (q : Question) (t : List ℕ) where
-  line-some : among 0 (each number (lineRules q t)) ≡ false
-  unfolding lineRules tableRules among each
-  line-some = refl
+-- Device and pin packed are the IRQ without its bit 7.
+module _ (bus device pin : ℕ) (d : device < devices) (p : pin < pins) where
+  packed : (x : ℕ) → eqb (x % busSlots) (device * pins + pin) ≡ (eqb (x / pins % devices) device && eqb (x % pins) pin)
+  packed x =
+      same-test _ _
+      (λ h. let e = eqb-true (x % busSlots) (device * pins + pin) h in
+      rw (eq-eqb (x / pins % devices) device (omega (arith, e, d, p)), eq-eqb (x % pins) pin (omega (arith, e, d, p))))
+      (λ h. let s = and-parts (eqb (x / pins % devices) device) (eqb (x % pins) pin) h in
+      let e = eqb-true (x / pins % devices) device (s .0) in
+      let f = eqb-true (x % pins) pin (s .1) in
+      eq-eqb (x % busSlots) (device * pins + pin) (omega (arith, e, f, d, p)))
 
-  line-number : refusal (lineRules q t) ≡ first (tableRefusal t) (refusal (queryNumber when wrongLine q t ∷ []))
-  unfolding lineRules tableRefusal tableRules among each
-  line-number = refusal-append (tableRules t) (queryNumber when wrongLine q t ∷ []) refl
+  slot-test : (e : Entry)
+      → (ofType ioInterruptType e && wired vectored bus (device * pins + pin) true e) ≡ wiredFrom (slot bus device pin) e
+  unfolding wired wiredFrom namesSlot
+  slot-test e = rw (packed (sourceIrq e)) (turned (ofType ioInterruptType e) (eqb (interruptType e) vectored) _ _ _)
+    where
+      turned : (a b c f g : Bool) → (a && (b && c && (f && g))) ≡ (b && (a && c && f && g))
+      turned true true c f g = sym (and-assoc c f g)
+      turned true false c f g = refl
+      turned false true c f g = refl
+      turned false false c f g = refl
 
-  pub line-accepted : refusal (lineRules q t) ≡ 0 → tableRefusal t ≡ 0
-  line-accepted e = first-none (tableRefusal t) _ (sym line-number ∙ e) .0
-
-  module _ (room : List ℕ) where
-    pub route-none : routeRefusal q t room ≡ 0 → tableRefusal t ≡ 0
-    unfolding routeRefusal
-    route-none e = line-accepted (lent-none (lineRules q t) line-some _ e .0)
-
-    -- What is refused before the room.
-    refused : {n : ℕ} → refusal (lineRules q t) ≡ n → (n ≡ 0 → ⊥) → (Refused n ≡ routed q t room) × (room ≡ routesLeft q t room)
-    unfolding routed routesLeft routeRefusal
-    refused {n} e z =
-        let k = lent-early (lineRules q t) line-some (tooSmall (length (routesOf q t)) room) e z in
-        (rw k (lent-refused n _ z), rw k (sym (left-kept n _ room z)))
-
-    pub table-refused : {n : ℕ} → n ≡ tableRefusal t → (n ≡ 0 → ⊥) → (Refused n ≡ routed q t room) × (room ≡ routesLeft q t room)
-    table-refused {n} e z = refused (line-number ∙ rw (← e) (first-some n _ z)) z
-
-    pub line-refused : tableRefusal t ≡ 0 → wrongLine q t ≡ true → (Refused queryNumber ≡ routed q t room) × (room ≡ routesLeft q t room)
-    line-refused a w = refused (line-number ∙ rw a (refusal-stop queryNumber _ w)) (λ z. omega (arith, z))
-
-    -- And what is answered.
-    pub line-answered : tableRefusal t ≡ 0 → wrongLine q t ≡ false
-        → (paired (routesOf q t) room ≡ routed q t room) × (fitLeft (routesOf q t) room ≡ routesLeft q t room)
-    unfolding routed routesLeft routeRefusal fitted fitLeft
-    line-answered a w =
-        let z : refusal (lineRules q t) ≡ 0 = line-number ∙ rw a (refusal-go queryNumber _ w ∙ refusal-end) in
-        let k = fit-late (lineRules q t) line-some (routesOf q t) room z in
-        (rw k, rw k)
+  pub slot-pairs : (t : List ℕ) → slotRoutesOf (slot bus device pin) t ≡ pairsOf ioSide (wired vectored bus (device * pins + pin) true) t
+  unfolding slotRoutesOf slotRoutes pairsOf
+  slot-pairs t = ap (λ (test : Entry → Bool). joined (pairsTo (enabledOf ioApicType (baseEntries t))) (keep test (baseEntries t))) (sym (fun-ext slot-test))

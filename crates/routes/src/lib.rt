@@ -1,13 +1,16 @@
-// The route queries: which inputs of which APICs an interrupt line is wired to, I/O and local.
+// The route queries: which inputs of which APICs an interrupt line is wired to, I/O and local, and those of a PCI slot.
 //
-// Promised of any bytes and any room: `io` and `local` answer `routed` and leave `routesLeft` in the room, each of its side.
-// The definitions stand in mps's specs/Routes.antt; how the code comes to the pairs, in specs/Pairs.antt. A refusal leaves
-// the room as it was. What the answer means in the paper's words is proved in promises.
+// Promised of any bytes and any room: `io` and `local` answer `routed` and leave `routesLeft` in the room, each of its side;
+// `slot` answers `slotRouted` and leaves `slotRoutesLeft`. The definitions stand in mps's specs/Routes.antt and
+// specs/Slots.antt; how the code comes to the pairs, in specs/Pairs.antt. A refusal leaves the room as it was. What the answer
+// means in the paper's words is proved in promises.
 //
-// Both are one query over the side. The IDs of the side's enabled APICs are gathered once, as a list for those entries that
-// name all and on a roll for those that name one: so the cost is that of the table and of the answer, and not of their
-// product. One pass over the interrupt entries counts the pairs, and a second one writes them where there are some and they fit. What a side
-// answers goes up as a number, and the enum is made at the top: an enum that is handed through a call is copied there.
+// All are one query over the side and what is compared of an entry's IRQ: the whole byte, or for a slot its low seven bits.
+// What is tested behind the table is each query's own. The IDs of the side's enabled APICs are gathered once, as a list for
+// those entries that name all and on a roll for those that name one: so the cost is that of the table and of the answer, and
+// not of their product. One pass over the interrupt entries counts the pairs, and a second one writes them where there are
+// some and they fit. What a side answers goes up as a number, and the enum is made at the top: an enum that is handed through
+// a call is copied there.
 use mps::Examined;
 use mps::Lent;
 use mps::Sections;
@@ -23,10 +26,11 @@ ghost use Rattle.mps.specs.Rules.{ioSide, localSide};
 ghost use Rattle.mps.specs.Sections.{rows};
 ghost use Rattle.mps.specs.Judge.{tableRefusal};
 ghost use Rattle.mps.specs.Rooms.{fitLeft};
-ghost use Rattle.mps.specs.Routes.{question, asked as isAsked, pair, pairSize, routesOf, routed, routesLeft};
+ghost use Rattle.mps.specs.Routes.{question, pair, pairSize, routed, routesLeft};
+ghost use Rattle.mps.specs.Slots.{slot, slotRouted, slotRoutesLeft};
 ghost use Rattle.roll.specs.Roll.{takenBit, enrolled, OnRoll};
 ghost use Rattle.judge.specs.Placed.{Placed};
-ghost use Rattle.routes.specs.Pairs.{sideOf, enabledIn, named, pairsFor, pairsIn, countIn, told};
+ghost use Rattle.routes.specs.Pairs.{sideOf, wired, pairsOf, enabledIn, named, pairsFor, pairsIn, countIn, told, meant};
 
 // Interrupt type, bus and IRQ in; the pairs stand in the room from its first byte on.
 pub fn io(t: &[u8], itype: u8, bus: u8, irq: u8, out: &mut [u8]) -> Lent
@@ -42,6 +46,18 @@ pub fn local(t: &[u8], itype: u8, bus: u8, irq: u8, out: &mut [u8]) -> Lent
     ensures { λ _. ⌜ now (out .exit) ≡ routesLeft (question localSide itype bus irq) (now (t .entry)) (now (out .entry)) ⌝ }
 {
     query(t, true, itype, bus, irq, out)
+}
+
+// Bus, device and pin of a PCI slot in; the pairs stand in the room as those of `io` do.
+pub fn slot(t: &[u8], bus: u8, device: u8, pin: u8, out: &mut [u8]) -> Lent
+    ensures { λ r. ⌜ r ≡ slotRouted (slot bus device pin) (now (t .entry)) (now (out .entry)) ⌝ }
+    ensures { λ _. ⌜ now (out .exit) ≡ slotRoutesLeft (slot bus device pin) (now (t .entry)) (now (out .entry)) ⌝ }
+{
+    let found = judge::examine(t);
+    match found {
+        Examined::Refused(n) => Lent::Refused(n),
+        Examined::Accepted(p) => slot_behind_table(t, p, bus, device, pin, out),
+    }
 }
 
 fn query(t: &[u8], local: bool, itype: u8, bus: u8, irq: u8, out: &mut [u8]) -> Lent
@@ -77,19 +93,53 @@ fn behind_table(
     if !buses::is_listed(&t[buses..ioapics], bus) {
         return Lent::Refused(24);
     }
-    let told = of_side(t, p, local, itype, bus, irq, out);
+    answered(of_side(t, p, local, itype, bus, irq, false, out))
+}
+
+// 24, 25 and on. The IRQ of a slot is its device and pin, packed, and bit 7 of an entry's is not compared.
+fn slot_behind_table(t: &[u8], p: Sections, bus: u8, device: u8, pin: u8, out: &mut [u8]) -> Lent
+    requires { ⌜ (tableRefusal (now t) ≡ 0) × (Placed (now t) p) ⌝ }
+    ensures { λ r. ⌜ r ≡ slotRouted (slot bus device pin) (now (t .entry)) (now (out .entry)) ⌝ }
+    ensures { λ _. ⌜ now (out .exit) ≡ slotRoutesLeft (slot bus device pin) (now (t .entry)) (now (out .entry)) ⌝ }
+{
+    let buses = p.buses;
+    let ioapics = p.ioapics;
+    let listed = &t[buses..ioapics];
+    if !buses::is_listed(listed, bus) {
+        return Lent::Refused(24);
+    }
+    if !buses::is_pci(listed, bus) | (layout::DEVICES <= device) | (layout::PINS <= pin) {
+        return Lent::Refused(25);
+    }
+    let irq = device * layout::PINS + pin;
+    answered(of_side(t, p, false, layout::VECTORED, bus, irq, true, out))
+}
+
+// What a side has told, as the answer.
+fn answered(told: usize) -> Lent
+    ensures { λ r. ⌜ r ≡ meant told ⌝ }
+{
     if told == 0 {
         return Lent::Refused(19);
     }
     Lent::Count(told - 1)
 }
 
-// Apart from 24's tests, since what a side answers asks nothing of them. 0 where the pairs do not fit in the room, else one
-// more than there are.
-fn of_side(t: &[u8], p: Sections, local: bool, itype: u8, bus: u8, irq: u8, out: &mut [u8]) -> usize
+// Apart from the tests of 24 and 25, since what a side answers asks nothing of them. 0 where the pairs do not fit in the
+// room, else one more than there are.
+fn of_side(
+    t: &[u8],
+    p: Sections,
+    local: bool,
+    itype: u8,
+    bus: u8,
+    irq: u8,
+    low: bool,
+    out: &mut [u8],
+) -> usize
     requires { ⌜ (tableRefusal (now t) ≡ 0) × (Placed (now t) p) ⌝ }
-    ensures { λ r. ⌜ r ≡ told (routesOf (question (sideOf local) itype bus irq) (now (t .entry))) (now (out .entry)) ⌝ }
-    ensures { λ _. ⌜ now (out .exit) ≡ fitLeft (routesOf (question (sideOf local) itype bus irq) (now (t .entry))) (now (out .entry)) ⌝ }
+    ensures { λ r. ⌜ r ≡ told (pairsOf (sideOf local) (wired itype bus irq low) (now (t .entry))) (now (out .entry)) ⌝ }
+    ensures { λ _. ⌜ now (out .exit) ≡ fitLeft (pairsOf (sideOf local) (wired itype bus irq low) (now (t .entry))) (now (out .entry)) ⌝ }
 {
     let buses = p.buses;
     let ioapics = p.ioapics;
@@ -104,6 +154,7 @@ fn of_side(t: &[u8], p: Sections, local: bool, itype: u8, bus: u8, irq: u8, out:
             itype,
             bus,
             irq,
+            low,
             out,
         );
     }
@@ -114,6 +165,7 @@ fn of_side(t: &[u8], p: Sections, local: bool, itype: u8, bus: u8, irq: u8, out:
         itype,
         bus,
         irq,
+        low,
         out,
     )
 }
@@ -127,17 +179,18 @@ fn answer(
     itype: u8,
     bus: u8,
     irq: u8,
+    low: bool,
     out: &mut [u8],
 ) -> usize
     requires { ⌜ (4 ≤ size) × (twice (enabledIn size (now targets)) ≡ false) × (length (now entries) ≤ 65535) ⌝ }
-    ensures { λ r. ⌜ r ≡ told (pairsIn (enabledIn size (now (targets .entry))) (isAsked itype bus irq) (rows entrySize (now (entries .entry)))) (now (out .entry)) ⌝ }
-    ensures { λ _. ⌜ now (out .exit) ≡ fitLeft (pairsIn (enabledIn size (now (targets .entry))) (isAsked itype bus irq) (rows entrySize (now (entries .entry)))) (now (out .entry)) ⌝ }
+    ensures { λ r. ⌜ r ≡ told (pairsIn (enabledIn size (now (targets .entry))) (wired itype bus irq low) (rows entrySize (now (entries .entry)))) (now (out .entry)) ⌝ }
+    ensures { λ _. ⌜ now (out .exit) ≡ fitLeft (pairsIn (enabledIn size (now (targets .entry))) (wired itype bus irq low) (rows entrySize (now (entries .entry)))) (now (out .entry)) ⌝ }
 {
     let mut roll = [0; 256];
     let mut list = [0; 256];
     let n = gather(&mut roll, &mut list, targets, size);
     let ids = &list[0..n];
-    let pairs = count(entries, itype, bus, irq, ids, &roll);
+    let pairs = count(entries, itype, bus, irq, low, ids, &roll);
     // With no pairs to write the entries are not gone through again.
     if pairs == 0 {
         return 1;
@@ -145,7 +198,7 @@ fn answer(
     if out.len() < pairs * layout::PAIR_SIZE {
         return 0;
     }
-    write(out, entries, itype, bus, irq, ids, &roll);
+    write(out, entries, itype, bus, irq, low, ids, &roll);
     pairs + 1
 }
 
@@ -171,12 +224,19 @@ fn gather(roll: &mut [u8; 256], ids: &mut [u8; 256], s: &[u8], size: usize) -> u
     count
 }
 
-// Whether the entry at a place is asked about. The IRQ first: by it alone most entries are known not to be.
-fn asked(s: &[u8], at: usize, itype: u8, bus: u8, irq: u8) -> bool
+// Whether the entry at a place is asked about. The IRQ first: by it alone most entries are known not to be. `low`: without
+// its bit 7.
+fn asked(s: &[u8], at: usize, itype: u8, bus: u8, irq: u8, low: bool) -> bool
     requires { ⌜ at + entrySize ≤ length (now s) ⌝ }
-    ensures { λ r. ⌜ r ≡ isAsked itype bus irq (take entrySize (drop at (now (s .entry)))) ⌝ }
+    ensures { λ r. ⌜ r ≡ wired itype bus irq low (take entrySize (drop at (now (s .entry)))) ⌝ }
 {
-    if s[at + layout::SOURCE_IRQ] != irq {
+    let source = s[at + layout::SOURCE_IRQ];
+    let own = if low {
+        source % layout::BUS_SLOTS
+    } else {
+        source
+    };
+    if own != irq {
         return false;
     }
     (s[at + layout::INTERRUPT_TYPE] == itype) & (s[at + layout::SOURCE_BUS] == bus)
@@ -197,15 +257,15 @@ fn names(ids: &[u8], roll: &[u8; 256], to: u8) -> usize
 }
 
 // How many pairs there are.
-fn count(s: &[u8], itype: u8, bus: u8, irq: u8, ids: &[u8], roll: &[u8; 256]) -> usize
+fn count(s: &[u8], itype: u8, bus: u8, irq: u8, low: bool, ids: &[u8], roll: &[u8; 256]) -> usize
     requires { ⌜ (OnRoll takenBit (now roll) (now ids)) × (length (now ids) ≤ 256) × (length (now s) ≤ 65535) ⌝ }
-    ensures { λ r. ⌜ r ≡ countIn (now (ids .entry)) (isAsked itype bus irq) (rows entrySize (now (s .entry))) ⌝ }
+    ensures { λ r. ⌜ r ≡ countIn (now (ids .entry)) (wired itype bus irq low) (rows entrySize (now (s .entry))) ⌝ }
     ensures { λ r. ⌜ r ≤ 32 * length (now (s .entry)) ⌝ }
 {
     let mut pairs = 0;
     let mut at = 0;
     while layout::ENTRY_SIZE <= s.len() - at {
-        if asked(s, at, itype, bus, irq) {
+        if asked(s, at, itype, bus, irq, low) {
             pairs += names(ids, roll, s[at + layout::DESTINATION]);
         }
         at += layout::ENTRY_SIZE;
@@ -257,15 +317,24 @@ fn put_named(out: &mut [u8], at: usize, entry: &[u8], ids: &[u8], roll: &[u8; 25
 }
 
 // All pairs, from the room's first byte on.
-fn write(out: &mut [u8], s: &[u8], itype: u8, bus: u8, irq: u8, ids: &[u8], roll: &[u8; 256])
+fn write(
+    out: &mut [u8],
+    s: &[u8],
+    itype: u8,
+    bus: u8,
+    irq: u8,
+    low: bool,
+    ids: &[u8],
+    roll: &[u8; 256],
+)
     requires { ⌜ OnRoll takenBit (now roll) (now ids) ⌝ }
-    requires { ⌜ length (pairsIn (now ids) (isAsked itype bus irq) (rows entrySize (now s))) ≤ length (now out) ⌝ }
-    ensures { λ _. ⌜ now (out .exit) ≡ sets (now (out .entry)) 0 (pairsIn (now (ids .entry)) (isAsked itype bus irq) (rows entrySize (now (s .entry)))) ⌝ }
+    requires { ⌜ length (pairsIn (now ids) (wired itype bus irq low) (rows entrySize (now s))) ≤ length (now out) ⌝ }
+    ensures { λ _. ⌜ now (out .exit) ≡ sets (now (out .entry)) 0 (pairsIn (now (ids .entry)) (wired itype bus irq low) (rows entrySize (now (s .entry)))) ⌝ }
 {
     let mut place = 0;
     let mut at = 0;
     while layout::ENTRY_SIZE <= s.len() - at {
-        if asked(s, at, itype, bus, irq) {
+        if asked(s, at, itype, bus, irq, low) {
             place = put_named(out, place, &s[at..at + layout::ENTRY_SIZE], ids, roll);
         }
         at += layout::ENTRY_SIZE;

@@ -4,8 +4,7 @@ use mathlib.Core.Path.{_≡_}
 use native.Mathlib.Omega.{arith}
 use lib.ListN.{length, take, replicate}
 use borrow.Author.Needs.{needs}
-use Rattle.mps.specs.Routes.{asked}
-use Rattle.routes.specs.Pairs.{enabledIn}
+use Rattle.routes.specs.Pairs.{wired, enabledIn}
 use Rattle.roll.specs.Roll.{takenBit, OnRoll}
 use Rattle.routes.proofs.Answering.{ids-most, ids-inside, ids-read, ids-known, answer-none, answer-short, answer-room, answer-put}
 use Rattle.routes.proofs.answer.Statement.{statement}
@@ -45,14 +44,14 @@ returns : tie.Need-returns
 returns c =
     let g = c .before .before .before .before .before in
     let a = g .before .before .before .before .before .before .args in
-    answer-none (enabledIn (a .size) (a .targets .now)) (asked (a .itype) (a .bus) (a .irq)) _ (a .out .now) (read g)
+    answer-none (enabledIn (a .size) (a .targets .now)) (wired (a .itype) (a .bus) (a .irq) (a .low)) _ (a .out .now) (read g)
     (c .before .count .ensures .0) (c .if1 .taken)
 
 returns-2 : tie.Need-returns-2
 returns-2 c =
     let g = c .before .before .before .before .before .before in
     let a = g .before .before .before .before .before .before .args in
-    answer-short (enabledIn (a .size) (a .targets .now)) (asked (a .itype) (a .bus) (a .irq)) _ (a .out .now) (read g)
+    answer-short (enabledIn (a .size) (a .targets .now)) (wired (a .itype) (a .bus) (a .irq) (a .low)) _ (a .out .now) (read g)
     (c .before .before .count .ensures .0) (c .if2 .taken)
 
 write-requires : tie.Need-write-requires
@@ -61,7 +60,7 @@ write-requires c κs =
     let g = n .before .before .before .before in
     let a = g .before .before .before .before .before .before .args in (
       known g .0,
-      answer-room (enabledIn (a .size) (a .targets .now)) (asked (a .itype) (a .bus) (a .irq)) _ (a .out .now) (read g)
+      answer-room (enabledIn (a .size) (a .targets .now)) (wired (a .itype) (a .bus) (a .irq) (a .low)) _ (a .out .now) (read g)
           (n .count .ensures .0) (c .before .before .if2 .left),
     )
 
@@ -71,7 +70,7 @@ returns-3 c =
     let n = w .before .before .before .before .before in
     let g = n .before .before .before .before in
     let a = g .before .before .before .before .before .before .args in
-    answer-put (enabledIn (a .size) (a .targets .now)) (asked (a .itype) (a .bus) (a .irq)) _ (a .out .now) (read g)
+    answer-put (enabledIn (a .size) (a .targets .now)) (wired (a .itype) (a .bus) (a .irq) (a .low)) _ (a .out .now) (read g)
     (n .count .ensures .0) (w .before .before .before .if2 .left) (w .write .ensures)
 
 pub answer-spec : {M : Type 1} → statement M

@@ -4,16 +4,16 @@ use mathlib.Core.Logic.{⊎-elim}
 use native.Mathlib.Omega.{arith}
 use lib.ListN.{length, getD}
 use borrow.Author.Needs.{needs}
-use Rattle.mps.specs.Routes.{asked}
+use Rattle.routes.specs.Pairs.{wired}
 use Rattle.routes.proofs.Counting.{named-most, Counts, counts-done, counts-named, counts-other}
 use Rattle.routes.proofs.count.Statement.{statement}
 use Rattle.routes.proofs.count.Tie as tie
 
 abbrev Inv-loop : tie.InvT-loop
-Inv-loop s itype bus irq ids roll pairs₀ at₀ pairs at = Counts ids (asked itype bus irq) s pairs at
+Inv-loop s itype bus irq low ids roll pairs₀ at₀ pairs at = Counts ids (wired itype bus irq low) s pairs at
 
 abbrev μ-loop : tie.MeasureT-loop
-μ-loop s itype bus irq ids roll pairs₀ at₀ pairs at = length s - at
+μ-loop s itype bus irq low ids roll pairs₀ at₀ pairs at = length s - at
 
 loop-holds : tie.Need-loop-holds Inv-loop μ-loop
 loop-holds c = (omega arith, omega arith, omega arith)
