@@ -2,9 +2,11 @@ pub mod Tests
 pub mod Bits
 pub mod Lists
 pub mod Joined
+pub mod Rising
 pub mod Pigeons
 pub mod Parts
 pub mod Stores
+pub mod Writes
 pub mod Cut
 pub mod Rows
 pub mod Small

@@ -1,7 +1,7 @@
 -- Laws of the words about lists. Assumes nothing.
 use Prim.Native.Nat.{ℕ, zero, suc, _+_, _-_, _≤_, _<_}
-use mathlib.Core.Path.{_≡_, refl, ap, _∙_}
-use mathlib.Core.Bool.{Bool, true, false, _&&_, false≢true, or-true}
+use mathlib.Core.Path.{_≡_, refl, ap, sym, _∙_}
+use mathlib.Core.Bool.{Bool, true, false, _&&_, false≢true, and-false, or-true}
 use mathlib.Core.List.{List, [], _∷_, _++_}
 use native.Mathlib.Omega.{arith}
 use native.Mathlib.Nat.{sub-zero}
@@ -102,6 +102,13 @@ unfolding keep
 keep-keep p q [] = refl
 keep-keep p q (x ∷ xs) = whether (q x) (λ e. rw (e, keep, keep-keep p q xs)) (λ e. rw (e, keep, keep-keep p q xs))
 
+-- A test before them all is a test of each.
+pub any-and : {A : Type 0} (b : Bool) (p : A → Bool) (xs : List A) → any (λ (x : A). b && p x) xs ≡ (b && any p xs)
+unfolding any
+any-and b p [] = sym (and-false b)
+any-and true p (x ∷ xs) = refl
+any-and false p (x ∷ xs) = any-and false p xs
+
 pub keep-most : {A : Type 0} (p : A → Bool) (xs : List A) → length (keep p xs) ≤ length xs
 unfolding keep
 keep-most p [] = omega arith
@@ -121,6 +128,12 @@ pub length-each : {A B : Type 0} (f : A → B) (xs : List A) → length (each f 
 unfolding each
 length-each f [] = refl
 length-each f (x ∷ xs) = ap suc (length-each f xs)
+
+-- A number is among those that a function makes, where it is made of some element.
+pub among-each : {A : Type 0} (x : ℕ) (f : A → ℕ) (xs : List A) → among x (each f xs) ≡ any (λ (y : A). eqb x (f y)) xs
+unfolding among each any
+among-each x f [] = refl
+among-each x f (y ∷ xs) = rw (among-each x f xs)
 
 -- ---- Zeros
 

@@ -6,43 +6,17 @@ use mathlib.Core.List.{List, [], _++_, append-nil}
 use native.Mathlib.Omega.{arith}
 use native.Mathlib.Numerals.{add-one}
 use lib.ListN.{length, getD, set, take, drop, drop-of-length-le, length-append}
-use lib.Seq.{drop-cons, sets, length-sets}
+use lib.Seq.{drop-cons, sets}
 use Rattle.mps.specs.Words.{keep, joined, part}
 use Rattle.mps.specs.Layout.{Entry, destination, input}
 use Rattle.mps.specs.Sections.{rows}
 use Rattle.mps.specs.Routes.{pair}
 use Rattle.laws.proofs.Lists.{keep-in, keep-out}
 use Rattle.laws.proofs.Rows.{rows-done, rows-next}
-use Rattle.laws.proofs.Stores.{sets-append}
+use Rattle.laws.proofs.Writes.{Writes, writes-next}
 use Rattle.roll.specs.Roll.{takenBit, marked, OnRoll}
 use Rattle.routes.specs.Pairs.{pairsFor, pairsIn}
 use Rattle.routes.proofs.Counting.{named-all, named-one, named-none}
-
--- ---- Writing on
-
--- With `rest` written from `place` on, `out` is what `t` is with `w` written from `at` on, and ends at the same place.
-pub record Writes (t : List ℕ) (at : ℕ) (w out : List ℕ) (place : ℕ) (rest : List ℕ) : Type 0 where
-  pub whole : sets out place rest ≡ sets t at w
-  pub end : place + length rest ≡ at + length w
-  pub room : length out ≡ length t
-
-pub writes-first : (t : List ℕ) (at : ℕ) (w : List ℕ) → Writes t at w t at w
-writes-first t at w = record { whole = refl; end = refl; room = refl }
-
-module _ {t w out rest : List ℕ} {at place : ℕ} (inv : Writes t at w out place rest) where
-  -- Nothing is left.
-  pub writes-done : rest ≡ [] → (place ≡ at + length w) × (out ≡ sets t at w)
-  writes-done e = (omega (arith, inv .end, ap length e), rw e at (inv .whole))
-
-  -- What is written now, and what is left then.
-  pub writes-next :
-      (now later : List ℕ) → rest ≡ now ++ later
-      → {u : List ℕ} {q : ℕ} → q ≡ place + length now → u ≡ sets out place now → Writes t at w u q later
-  writes-next now later e f g = record {
-    whole = rw (f, g) (sym (sets-append out place now later) ∙ rw e at (inv .whole));
-    end = omega (arith, f, inv .end, ap length e, length-append now later);
-    room = rw g (length-sets out place now ∙ inv .room);
-  }
 
 -- ---- One pair, and a pair for each ID
 

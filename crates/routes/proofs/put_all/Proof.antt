@@ -5,7 +5,8 @@ use lib.ListN.{length, drop}
 use borrow.Author.Needs.{needs}
 use Rattle.mps.specs.Words.{joined}
 use Rattle.mps.specs.Routes.{pair}
-use Rattle.routes.proofs.Writing.{Writes, writes-first, writes-done, ids-done, ids-room, ids-put}
+use Rattle.laws.proofs.Writes.{Writes, writes-first, writes-done}
+use Rattle.routes.proofs.Writing.{ids-done, ids-room, ids-put}
 use Rattle.routes.proofs.put_all.Statement.{statement}
 use Rattle.routes.proofs.put_all.Tie as tie
 

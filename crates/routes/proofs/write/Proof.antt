@@ -6,8 +6,9 @@ use native.Mathlib.Omega.{arith}
 use lib.ListN.{length}
 use borrow.Author.Needs.{needs}
 use Rattle.laws.proofs.Parts.{length-part}
+use Rattle.laws.proofs.Writes.{Writes, writes-first, writes-done}
 use Rattle.routes.specs.Pairs.{wired}
-use Rattle.routes.proofs.Writing.{Writes, pairsFrom, writes-first, writes-done, pairs-done, pairs-room, pairs-put, pairs-pass}
+use Rattle.routes.proofs.Writing.{pairsFrom, pairs-done, pairs-room, pairs-put, pairs-pass}
 use Rattle.routes.proofs.write.Statement.{statement}
 use Rattle.routes.proofs.write.Tie as tie
 
