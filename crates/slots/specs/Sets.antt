@@ -1,0 +1,55 @@
+-- Slots as numbers, and sets of them, as the code makes the listing. A slot is bus * 128 + device * 4 + pin, so that the
+-- numbers rise as the listing does. That the listing is made of these numbers: proofs/Laws.antt.
+use Prim.Native.Nat.{ℕ, zero, suc, _+_, _*_, _/_, _%_, _^_}
+use mathlib.Core.Bool.{Bool}
+use mathlib.Core.List.{List, [], _∷_, _++_}
+use lib.Bits.{bitOr}
+use lib.Dec.{eqb}
+use lib.ListN.{getD, set}
+use Rattle.mps.specs.Words.{bit, only, keep, each, below}
+use Rattle.mps.specs.Layout.{Entry, sourceBus, sourceIrq, pins, devices}
+use Rattle.roll.specs.Roll.{busBit, marked}
+
+-- How many slots a bus has, and how many there are.
+abbrev pub busSlots : ℕ
+busSlots = 128
+
+abbrev pub slotsMost : ℕ
+slotsMost = 32768
+
+-- ---- The numbers
+
+-- The slot that a source names: "bit 7 ignored".
+unfoldable pub slotNumber : ℕ → ℕ → ℕ
+slotNumber bus irq = bus * busSlots + irq % busSlots
+
+-- Those that some entries name, on the buses of a roll.
+unfoldable pub namedOn : List ℕ → List Entry → List ℕ
+namedOn roll es =
+    each (λ (e : Entry). slotNumber (sourceBus e) (sourceIrq e)) (keep (λ (e : Entry). marked busBit roll (sourceBus e)) es)
+
+-- Bus, device and pin.
+unfoldable pub slotBytes : ℕ → List ℕ
+slotBytes n = n / busSlots ∷ n / pins % devices ∷ n % pins ∷ []
+
+-- ---- The sets: number n is bit n % 64 of word n / 64
+
+unfoldable pub hasSlot : List ℕ → ℕ → Bool
+hasSlot words n = bit (n % 64) (getD words (n / 64) 0)
+
+-- A set with one number more, and with each of some.
+unfoldable pub withSlot : List ℕ → ℕ → List ℕ
+withSlot words n = set words (n / 64) (bitOr (getD words (n / 64) 0) (2 ^ (n % 64)))
+
+unfoldable pub withSlots : List ℕ → List ℕ → List ℕ
+withSlots words [] = words
+withSlots words (n ∷ ns) = withSlots (withSlot words n) ns
+
+-- The numbers in a set, rising.
+unfoldable pub slotsIn : List ℕ → List ℕ
+slotsIn words = keep (hasSlot words) (below slotsMost)
+
+-- The numbers of a word's bits that are set, its first d bits being numbered from n on.
+unfoldable pub setBits : ℕ → ℕ → ℕ → List ℕ
+setBits zero n word = []
+setBits (suc d) n word = only (eqb (word % 2) 1) (n ∷ []) ++ setBits d (suc n) (word / 2)
