@@ -1,0 +1,154 @@
+-- What the slots of a table are, as numbers, and by its places. Assumes nothing.
+use Prim.Native.Nat.{ℕ, _+_, _*_, _/_, _%_, _^_, _≤_, _<_}
+use mathlib.Core.Path.{_≡_, refl, sym, ap, _∙_}
+use mathlib.Core.Bool.{Bool, true, false, _&&_, and-false, and-assoc}
+use mathlib.Core.List.{List, [], _∷_}
+use native.Mathlib.Omega.{arith}
+use lib.Dec.{eqb}
+use lib.ListN.{length, replicate}
+use borrow.Author.Tests.{eq-eqb, eqb-true}
+use Rattle.mps.specs.Words.{among, any, keep, each, only, joined, rising, below, part}
+use Rattle.mps.specs.Layout.{Entry, ofType, ioInterruptType, entrySize, headerSize, idOf, sourceBus, sourceIrq, pins, devices, pinOf, deviceOf, baseLength, baseEntryLength, basePart, baseEntries}
+use Rattle.mps.specs.Sections.{rows}
+use Rattle.mps.specs.Slots.{Slot, slot, namesSlot, isPci, onPci, slotSize, slotNamed, slots, slotsOf}
+use Rattle.mps.specs.declared.Sections.{Sections}
+use Rattle.laws.proofs.Tests.{whether, same-test, and-parts}
+use Rattle.laws.proofs.Lists.{any-keep, any-and, among-each, keep-most}
+use Rattle.laws.proofs.Joined.{joined-keep, only-joined}
+use Rattle.laws.proofs.Rising.{length-rising, joined-rising, keep-rising, joined-blocks}
+use Rattle.laws.proofs.Small.{Bytes, Small, bytes-part, small-cut, small-rows, any-same}
+use Rattle.roll.specs.Roll.{busBit, marked, enrolled, OnRoll}
+use Rattle.roll.proofs.Laws.{enrolled-on}
+use Rattle.judge.specs.Placed.{Placed}
+use Rattle.judge.proofs.Laws.{placed-pci}
+use Rattle.slots.specs.Sets.{busSlots, slotsMost, slotNumber, namedOn, slotBytes, hasSlot, withSlots, slotsIn}
+use Rattle.slots.proofs.Sets.{has-only}
+use Rattle.slots.proofs.Writing.{length-slots}
+
+-- ---- The listing, by numbers
+
+-- The slot that a number is, and whether entries name it on a PCI bus.
+abbrev slotAt : ℕ → Slot
+slotAt n = slot (n / busSlots) (n / pins % devices) (n % pins)
+
+unfoldable pub isNamed : List Entry → ℕ → Bool
+isNamed es n = onPci es (n / busSlots) && any (namesSlot (slotAt n)) es
+
+module _ (es : List Entry) where
+  abbrev bytesOf : ℕ → List ℕ
+  bytesOf n = only (isNamed es n) (slotBytes n)
+
+  only-and : (a b : Bool) (l : List ℕ) → only (a && b) l ≡ only a (only b l)
+  only-and true b l = refl
+  only-and false b l = refl
+
+  one : (bus device pin : ℕ) → device < 32 → pin < 4
+      → bytesOf (bus * 128 + (device * 4 + pin)) ≡ only (onPci es bus) (slotNamed es bus device pin)
+  unfolding isNamed slotBytes slotNamed
+  one bus device pin h k =
+      let n = bus * 128 + (device * 4 + pin) in
+      let a : n / 128 ≡ bus = omega arith in
+      let b : n / 4 % 32 ≡ device = omega arith in
+      let c : n % 4 ≡ pin = omega arith in
+      rw (a, b, c) (only-and (onPci es bus) (any (namesSlot (slot bus device pin)) es) (bus ∷ device ∷ pin ∷ []))
+
+  abbrev onBus : ℕ → List ℕ
+  onBus bus = joined (λ (device : ℕ). joined (slotNamed es bus device) (below pins)) (below devices)
+
+  bus-numbered : (bus : ℕ) → joined (λ (i : ℕ). bytesOf (bus * 128 + i)) (below 128) ≡ only (onPci es bus) (onBus bus)
+  bus-numbered bus =
+      joined-blocks (λ (i : ℕ). bytesOf (bus * 128 + i)) 4 32
+      ∙ joined-rising _ _ 32 0
+      (λ device a h. joined-rising _ _ 4 0 (λ pin b k. one bus device pin (omega arith) (omega arith))
+      ∙ sym (only-joined (onPci es bus) (slotNamed es bus device) (below 4)))
+      ∙ sym (only-joined (onPci es bus) (λ (device : ℕ). joined (slotNamed es bus device) (below pins)) (below 32))
+
+  pub slots-numbered : slots es ≡ joined slotBytes (keep (isNamed es) (below slotsMost))
+  unfolding slots
+  slots-numbered =
+      joined-keep onBus (onPci es) (below 256)
+      ∙ joined-rising _ _ 256 0 (λ bus a h. sym (bus-numbered bus))
+      ∙ sym (joined-blocks bytesOf 128 256)
+      ∙ sym (joined-keep slotBytes (isNamed es) (below slotsMost))
+
+-- There are no more than these, whatever the table.
+pub slots-most : (t : List ℕ) → length (slotsOf t) / slotSize < 2 ^ 32
+unfolding slotsOf
+slots-most t =
+    let es = baseEntries t in
+    let named = keep (isNamed es) (below slotsMost) in
+    omega (arith, ap length (slots-numbered es), length-slots named, keep-most (isNamed es) (below slotsMost), length-rising slotsMost 0)
+
+-- ---- A source names one number
+
+module _ (n : ℕ) where
+  -- The source of an entry is that slot.
+  abbrev isSource : Entry → Bool
+  isSource e = eqb (sourceBus e) (n / 128) && eqb (deviceOf e) (n / 4 % 32) && eqb (pinOf e) (n % 4)
+
+  source-number : (bus irq : ℕ) → eqb n (slotNumber bus irq) ≡ (eqb bus (n / 128) && eqb (irq / 4 % 32) (n / 4 % 32) && eqb (irq % 4) (n % 4))
+  unfolding slotNumber
+  source-number bus irq =
+      same-test _ _
+      (λ t. let e = eqb-true n (bus * 128 + irq % 128) t in
+      rw (eq-eqb bus (n / 128) (omega (arith, e)), eq-eqb (irq / 4 % 32) (n / 4 % 32) (omega (arith, e)), eq-eqb (irq % 4) (n % 4) (omega (arith, e))))
+      (λ t. let p = and-parts (eqb bus (n / 128) && eqb (irq / 4 % 32) (n / 4 % 32)) (eqb (irq % 4) (n % 4)) t in
+      let q = and-parts (eqb bus (n / 128)) (eqb (irq / 4 % 32) (n / 4 % 32)) (p .0) in
+      eq-eqb n (bus * 128 + irq % 128)
+      (omega (arith, eqb-true bus (n / 128) (q .0), eqb-true (irq / 4 % 32) (n / 4 % 32) (q .1), eqb-true (irq % 4) (n % 4) (p .1))))
+
+  -- Of type 3 entries among all.
+  names-rows : (es rs : List Entry) → Small es → keep (ofType ioInterruptType) es ≡ rs → any (namesSlot (slotAt n)) es ≡ any isSource rs
+  unfolding namesSlot
+  names-rows es rs small e =
+      any-same (namesSlot (slotAt n)) (λ (x : Entry). ofType ioInterruptType x && isSource x)
+      (λ x b. ap (λ (k : Bool). k && eqb (pinOf x) (n % 4)) (and-assoc (ofType ioInterruptType x) (eqb (sourceBus x) (n / 128)) (eqb (deviceOf x) (n / 4 % 32)))
+      ∙ and-assoc (ofType ioInterruptType x) (eqb (sourceBus x) (n / 128) && eqb (deviceOf x) (n / 4 % 32)) (eqb (pinOf x) (n % 4)))
+      small
+      ∙ sym (any-keep isSource (ofType ioInterruptType) es) ∙ ap (any isSource) e
+
+-- ---- The set that is noted
+
+-- The PCI buses are on the roll, and the type 3 entries are the rows.
+module _ (roll ids : List ℕ) (on : OnRoll busBit roll ids) (rs : List Entry) (small : Small rs) where
+  among-named : (n : ℕ) → among n (namedOn roll rs) ≡ (among (n / 128) ids && any (isSource n) rs)
+  unfolding namedOn
+  among-named n =
+      among-each n (λ (e : Entry). slotNumber (sourceBus e) (sourceIrq e)) (keep onIt rs)
+      ∙ any-keep (λ (e : Entry). eqb n (slotNumber (sourceBus e) (sourceIrq e))) onIt rs
+      ∙ any-same _ (λ (e : Entry). among (n / 128) ids && isSource n e) alike small
+      ∙ any-and (among (n / 128) ids) (isSource n) rs
+    where
+      onIt : Entry → Bool
+      onIt e = marked busBit roll (sourceBus e)
+
+      alike : (e : Entry) → Bytes e → (onIt e && eqb n (slotNumber (sourceBus e) (sourceIrq e))) ≡ (among (n / 128) ids && isSource n e)
+      alike e b =
+          rw (on (sourceBus e) (b 4), source-number n (sourceBus e) (sourceIrq e))
+          (whether (eqb (sourceBus e) (n / 128))
+          (λ t. rw (t, eqb-true (sourceBus e) (n / 128) t))
+          (λ f. rw f (and-false (among (sourceBus e) ids) ∙ sym (and-false (among (n / 128) ids)))))
+
+module _ (t : List ℕ) (p : Sections) (placed : Placed t p) where
+  abbrev pciIds : List ℕ
+  pciIds = each idOf (keep isPci (rows entrySize (part (p .buses) (p .ioapics) t)))
+
+  abbrev wired : List Entry
+  wired = rows entrySize (part (p .interrupts) (p .locals) t)
+
+  named-among : (n : ℕ) → isNamed (baseEntries t) n ≡ (among (n / 128) pciIds && any (isSource n) wired)
+  unfolding isNamed baseEntries
+  named-among n =
+      rw (placed-pci t p placed (n / 128), names-rows n (baseEntries t) wired (small-cut baseEntryLength 0 (basePart t) (bytes-part headerSize (baseLength t) t (placed .bytes))) (placed .interrupts))
+
+  -- What the code has noted is what the table names.
+  pub noted-slots :
+      {roll words : List ℕ} (k : ℕ) → k ≡ 512 → roll ≡ enrolled busBit (replicate 256 0) pciIds → words ≡ withSlots (replicate k 0) (namedOn roll wired)
+      → slotsOf t ≡ joined slotBytes (slotsIn words)
+  unfolding slotsOf slotsIn
+  noted-slots {roll} k size e f =
+      slots-numbered (baseEntries t)
+      ∙ ap (joined slotBytes) (keep-rising _ _ slotsMost 0
+      (λ n a h. named-among n
+      ∙ sym (among-named roll pciIds (rw e (enrolled-on busBit 256 pciIds refl)) wired (small-rows entrySize _ (bytes-part (p .interrupts) (p .locals) t (placed .bytes))) n)
+      ∙ rw f (sym (has-only k (namedOn roll wired) n (omega (arith, h, size))))))
