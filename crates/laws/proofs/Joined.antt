@@ -37,14 +37,14 @@ joined-nothing [] = refl
 joined-nothing (x ∷ xs) = joined-nothing xs
 
 -- A test before them all is a test of each.
+pub only-joined : {A B : Type 0} (b : Bool) (f : A → List B) (xs : List A) → only b (joined f xs) ≡ joined (λ (x : A). only b (f x)) xs
+only-joined true f xs = refl
+only-joined false f xs = sym (joined-nothing xs)
+
 pub joined-only : {A B : Type 0} (b : Bool) (p : A → Bool) (f : A → List B) (xs : List A)
     → only b (joined (λ (x : A). only (p x) (f x)) xs) ≡ joined (λ (x : A). only (b && p x) (f x)) xs
 joined-only true p f xs = refl
 joined-only false p f xs = sym (joined-nothing xs)
-
-pub only-joined : {A B : Type 0} (b : Bool) (f : A → List B) (xs : List A) → only b (joined f xs) ≡ joined (λ (x : A). only b (f x)) xs
-only-joined true f xs = refl
-only-joined false f xs = sym (joined-nothing xs)
 
 pub joined-most : {A B : Type 0} (f : A → List B) (m : ℕ) → ((x : A) → length (f x) ≤ m) → (xs : List A) → length (joined f xs) ≤ length xs * m
 unfolding joined

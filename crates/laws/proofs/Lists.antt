@@ -109,6 +109,12 @@ any-and b p [] = sym (and-false b)
 any-and true p (x ∷ xs) = refl
 any-and false p (x ∷ xs) = any-and false p xs
 
+-- A test that nothing passes keeps nothing.
+pub keep-nothing : {A : Type 0} (xs : List A) → keep (λ (x : A). false) xs ≡ []
+unfolding keep
+keep-nothing [] = refl
+keep-nothing (x ∷ xs) = keep-nothing xs
+
 pub keep-most : {A : Type 0} (p : A → Bool) (xs : List A) → length (keep p xs) ≤ length xs
 unfolding keep
 keep-most p [] = omega arith

@@ -15,7 +15,7 @@ use Rattle.mps.specs.Layout.{Entry, idOf}
 use Rattle.mps.specs.Sections.{rows}
 use Rattle.laws.proofs.Tests.{eqb-comm, whether, or-swap}
 use Rattle.laws.proofs.Bits.{bit-none, bit-power, bit-or}
-use Rattle.laws.proofs.Lists.{zeros-at}
+use Rattle.laws.proofs.Lists.{zeros-at, keep-nothing}
 use Rattle.laws.proofs.Rows.{rows-done, rows-next}
 use Rattle.laws.proofs.Small.{Bytes, Small, small-more, small-keep, below-each}
 use Rattle.roll.specs.Roll.{mark, marked, withMarks, Shows, enrolled, OnRoll}
@@ -210,11 +210,6 @@ pub keep-every : (es : List Entry) → keep (λ (e : Entry). true) es ≡ es
 unfolding keep
 keep-every [] = refl
 keep-every (e ∷ es) = ap (λ (l : List Entry). e ∷ l) (keep-every es)
-
-keep-nothing : (es : List Entry) → keep (λ (e : Entry). false) es ≡ []
-unfolding keep
-keep-nothing [] = refl
-keep-nothing (e ∷ es) = keep-nothing es
 
 module _ (c : Call) (j : ℕ) (roll : List ℕ) (es : List Entry) (fine : called c roll es .wrong ≡ false) (y : ℕ) (h : y < length roll) where
   pub called-all :

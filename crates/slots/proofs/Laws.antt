@@ -1,5 +1,5 @@
 -- What the slots of a table are, as numbers, and by its places. Assumes nothing.
-use Prim.Native.Nat.{ℕ, _+_, _*_, _/_, _%_, _^_, _≤_, _<_}
+use Prim.Native.Nat.{ℕ, _+_, _*_, _/_, _%_, _^_, _<_}
 use mathlib.Core.Path.{_≡_, refl, sym, ap, _∙_}
 use mathlib.Core.Bool.{Bool, true, false, _&&_, and-false, and-assoc}
 use mathlib.Core.List.{List, [], _∷_}
@@ -7,7 +7,7 @@ use native.Mathlib.Omega.{arith}
 use lib.Dec.{eqb}
 use lib.ListN.{length, replicate}
 use borrow.Author.Tests.{eq-eqb, eqb-true}
-use Rattle.mps.specs.Words.{among, any, keep, each, only, joined, rising, below, part}
+use Rattle.mps.specs.Words.{among, any, keep, each, only, joined, below, part}
 use Rattle.mps.specs.Layout.{Entry, ofType, ioInterruptType, entrySize, headerSize, idOf, sourceBus, sourceIrq, pins, devices, pinOf, deviceOf, baseLength, baseEntryLength, basePart, baseEntries}
 use Rattle.mps.specs.Sections.{rows}
 use Rattle.mps.specs.Slots.{Slot, slot, namesSlot, isPci, onPci, slotSize, slotNamed, slots, slotsOf}
@@ -21,7 +21,7 @@ use Rattle.roll.specs.Roll.{busBit, marked, enrolled, OnRoll}
 use Rattle.roll.proofs.Laws.{enrolled-on}
 use Rattle.judge.specs.Placed.{Placed}
 use Rattle.judge.proofs.Laws.{placed-pci}
-use Rattle.slots.specs.Sets.{busSlots, slotsMost, slotNumber, namedOn, slotBytes, hasSlot, withSlots, slotsIn}
+use Rattle.slots.specs.Sets.{busSlots, slotsMost, slotNumber, namedOn, slotBytes, withSlots, slotsIn}
 use Rattle.slots.proofs.Sets.{has-only}
 use Rattle.slots.proofs.Writing.{length-slots}
 

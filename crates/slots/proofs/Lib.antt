@@ -2,3 +2,4 @@ pub mod Bits
 pub mod Sets
 pub mod Writing
 pub mod Laws
+pub mod Answering

@@ -1,6 +1,6 @@
 -- Laws of the sets of slots: what is in one after more was put in, how many that is, and what the pass over the entries
 -- keeps. Assumes nothing.
-use Prim.Native.Nat.{ℕ, suc, _+_, _-_, _*_, _/_, _%_, _^_, _≤_, _<_}
+use Prim.Native.Nat.{ℕ, _+_, _-_, _*_, _/_, _%_, _^_, _≤_, _<_}
 use mathlib.Core.Path.{_≡_, refl, sym, ap, _∙_}
 use mathlib.Core.Bool.{Bool, true, false, cond, _||_, or-false, or-assoc, or-comm}
 use mathlib.Core.List.{List, [], _∷_}
@@ -12,13 +12,13 @@ use lib.Pow.{shl-exact}
 use lib.ListN.{length, getD, set, length-set, take, drop, replicate, length-replicate}
 use lib.Seq.{getD-set-same, getD-set-other}
 use borrow.Author.Tests.{eq-eqb, ne-eqb, eqb-true, eqb-false}
-use Rattle.mps.specs.Words.{bit, among, keep, each, rising}
-use Rattle.mps.specs.Layout.{Entry, sourceBus, sourceIrq}
+use Rattle.mps.specs.Words.{bit, among, keep, each, below}
+use Rattle.mps.specs.Layout.{Entry, sourceBus}
 use Rattle.mps.specs.Sections.{rows}
 use Rattle.laws.proofs.Tests.{whether, or-swap}
 use Rattle.laws.proofs.Bits.{bit-none, bit-power, bit-or}
-use Rattle.laws.proofs.Lists.{zeros-at, keep-in, keep-out}
-use Rattle.laws.proofs.Rising.{keep-more, keep-again}
+use Rattle.laws.proofs.Lists.{zeros-at, keep-in, keep-out, keep-most, keep-nothing}
+use Rattle.laws.proofs.Rising.{length-rising, keep-rising, keep-more, keep-again}
 use Rattle.laws.proofs.Rows.{rows-done, rows-next, row-byte}
 use Rattle.roll.specs.Roll.{busBit, marked}
 use Rattle.slots.specs.Sets.{slotsMost, slotNumber, namedOn, hasSlot, withSlot, withSlots, slotsIn}
@@ -91,6 +91,19 @@ has-none k m = rw (zeros-at k (m / 64)) (bit-none (m % 64))
 pub has-only : (k : ℕ) (ns : List ℕ) (m : ℕ) → m / 64 < k → hasSlot (withSlots (replicate k 0) ns) m ≡ among m ns
 has-only k ns m h =
     has-also (replicate k 0) ns m (omega (arith, h, length-replicate {A = ℕ} k 0)) ∙ rw (has-none k m) (or-false (among m ns))
+
+-- There are no more than slots, and in an empty set none.
+pub slots-few : (words : List ℕ) → length (slotsIn words) ≤ slotsMost
+unfolding slotsIn
+slots-few words = omega (arith, keep-most (hasSlot words) (below slotsMost), length-rising slotsMost 0)
+
+pub slots-none : (k : ℕ) → slotsIn (replicate k 0) ≡ []
+unfolding slotsIn
+slots-none k = keep-rising (hasSlot (replicate k 0)) (λ (n : ℕ). false) slotsMost 0 (λ m a h. has-none k m) ∙ keep-nothing (below slotsMost)
+
+-- So what has come to it is all that is in.
+pub count-all : (k n : ℕ) (words : List ℕ) → length (slotsIn (replicate k 0)) + n ≡ length (slotsIn words) → length (slotsIn words) ≡ n
+count-all k n words e = omega (arith, ap length (slots-none k), e)
 
 -- ---- The pass over the entries
 

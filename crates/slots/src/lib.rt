@@ -18,8 +18,43 @@ ghost use lib.Seq.{sets};
 ghost use Rattle.mps.specs.Words.{joined};
 ghost use Rattle.mps.specs.Layout.{entrySize};
 ghost use Rattle.mps.specs.Sections.{rows};
-ghost use Rattle.mps.specs.Slots.{slotSize};
+ghost use Rattle.mps.specs.Judge.{tableRefusal};
+ghost use Rattle.mps.specs.Slots.{slotSize, slotsListed, slotsLeft};
+ghost use Rattle.judge.specs.Placed.{Placed};
 ghost use Rattle.slots.specs.Sets.{slotsMost, slotNumber, namedOn, slotBytes, hasSlot, withSlot, withSlots, slotsIn, setBits};
+
+// The slots stand in the room from its first byte on.
+pub fn list(t: &[u8], out: &mut [u8]) -> Lent
+    ensures { λ r. ⌜ r ≡ slotsListed (now (t .entry)) (now (out .entry)) ⌝ }
+    ensures { λ _. ⌜ now (out .exit) ≡ slotsLeft (now (t .entry)) (now (out .entry)) ⌝ }
+{
+    let found = judge::examine(t);
+    match found {
+        Examined::Refused(n) => Lent::Refused(n),
+        Examined::Accepted(p) => of_table(t, p, out),
+    }
+}
+
+// The same with the places of the table.
+fn of_table(t: &[u8], p: Sections, out: &mut [u8]) -> Lent
+    requires { ⌜ (tableRefusal (now t) ≡ 0) × (Placed (now t) p) ⌝ }
+    ensures { λ r. ⌜ r ≡ slotsListed (now (t .entry)) (now (out .entry)) ⌝ }
+    ensures { λ _. ⌜ now (out .exit) ≡ slotsLeft (now (t .entry)) (now (out .entry)) ⌝ }
+{
+    let buses = p.buses;
+    let ioapics = p.ioapics;
+    let interrupts = p.interrupts;
+    let locals = p.locals;
+    let mut pci = [0; 256];
+    buses::pci(&mut pci, &t[buses..ioapics]);
+    let mut set = [0; 512];
+    let n = note(&mut set, &pci, &t[interrupts..locals]);
+    if out.len() < n * layout::SLOT_SIZE {
+        return Lent::Refused(19);
+    }
+    write(out, &set, n);
+    Lent::Count(n)
+}
 
 // The number of the slot that a source names.
 fn number(bus: u8, irq: u8) -> usize
