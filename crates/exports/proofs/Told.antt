@@ -39,7 +39,7 @@ use Rattle.dump.proofs.Narrow.{default-narrow, table-narrow}
 use Rattle.listing.proofs.Longest.{list-most}
 use Rattle.writer.proofs.Most.{written-most}
 use Rattle.routes.proofs.Most.{routes-most, slot-most}
-use Rattle.slots.proofs.Most.{slots-most}
+use Rattle.slots.proofs.Laws.{slots-most}
 use Rattle.addresses.proofs.Links.{links-most}
 use Rattle.addresses.proofs.Refuses.{ofSeen, seen-by-raised}
 use Rattle.reader.proofs.Laws.{size-most}

@@ -3,7 +3,7 @@
 -- Document 01, "The dump", "The floating pointer" and "The table"; MPS 4.1 to 4.4. "Reserved bits and bytes decide nothing
 -- and are kept": only byte 43 has a name, since the writer takes it. Without a name too is what no rule reads by
 -- itself: the pointer's "checksum at 10", which counts in its sum, and a processor's "signature 4, features 8".
-use Prim.Native.Nat.{ℕ, _+_, _/_, _%_, _^_}
+use Prim.Native.Nat.{ℕ, _+_, _*_, _/_, _%_, _^_}
 use mathlib.Core.Bool.{Bool, cond}
 use mathlib.Core.List.{List}
 use lib.ListN.{take}
@@ -320,6 +320,10 @@ pins = 4
 
 abbrev pub devices : ℕ
 devices = 32
+
+-- The slots of a bus: what a source IRQ tells without its bit 7.
+abbrev pub busSlots : ℕ
+busSlots = devices * pins
 
 -- "bits 0-1 the pin (0 is INTA#)"
 abbrev pub pinOf : Entry → ℕ

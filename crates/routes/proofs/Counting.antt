@@ -11,14 +11,14 @@ use lib.Seq.{sets}
 use borrow.Author.Tests.{eq-eqb, ne-eqb}
 use Rattle.mps.specs.Words.{among, keep, each}
 use Rattle.mps.specs.Sums.{total}
-use Rattle.mps.specs.Layout.{Entry, enabled}
+use Rattle.mps.specs.Layout.{Entry, enabled, busSlots}
 use Rattle.mps.specs.Sections.{rows}
 use Rattle.laws.proofs.Tests.{whether}
 use Rattle.laws.proofs.Lists.{keep-in, keep-out}
 use Rattle.laws.proofs.Rows.{rows-done, rows-next, row-byte}
 use Rattle.apics.proofs.Laws.{row-enabled}
 use Rattle.roll.specs.Roll.{takenBit, marked, withMarks, enrolled, OnRoll}
-use Rattle.routes.specs.Pairs.{busSlots, wired, enabledIn, named, countIn}
+use Rattle.routes.specs.Pairs.{wired, enabledIn, named, countIn}
 
 -- ---- wired
 

@@ -9,7 +9,7 @@ use lib.Dec.{eqb}
 use borrow.Author.Tests.{eq-eqb, eqb-true}
 use Rattle.mps.specs.Words.{keep, each, joined, among, only, twice, part}
 use Rattle.mps.specs.Sums.{total}
-use Rattle.mps.specs.Layout.{Entry, ofType, ioApicType, ioInterruptType, headerSize, processorSize, entrySize, idOf, enabled, interruptType, vectored, sourceIrq, pins, devices, destination, everyone, baseEntries}
+use Rattle.mps.specs.Layout.{Entry, ofType, ioApicType, ioInterruptType, headerSize, processorSize, entrySize, idOf, enabled, interruptType, vectored, sourceIrq, pins, devices, destination, everyone, baseEntries, busSlots}
 use Rattle.mps.specs.Rules.{ioSide, localSide, Side, enabledOf, enabledIds}
 use Rattle.mps.specs.Sections.{rows}
 use Rattle.mps.specs.Judge.{tableRefusal}
@@ -21,7 +21,7 @@ use Rattle.laws.proofs.Lists.{keep-keep}
 use Rattle.laws.proofs.Joined.{joined-same}
 use Rattle.judge.specs.Placed.{Placed}
 use Rattle.accepted.proofs.Obeyed.{obeyed}
-use Rattle.routes.specs.Pairs.{busSlots, wired, pairsOf, enabledIn, named, pairsFor, pairsIn, countIn}
+use Rattle.routes.specs.Pairs.{wired, pairsOf, enabledIn, named, pairsFor, pairsIn, countIn}
 
 -- ---- Names: of APICs of which no two have one ID, an entry names all, one, or none
 

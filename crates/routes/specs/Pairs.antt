@@ -1,6 +1,6 @@
 -- The pairs of a route query from the IDs of a side's enabled APICs alone, as the code makes them. In an accepted table no
 -- two of these are the same, so an entry names all of them, one, or none: proofs/Laws.antt.
-use Prim.Native.Nat.{ℕ, zero, suc, _+_, _*_, _/_, _%_}
+use Prim.Native.Nat.{ℕ, zero, suc, _+_, _/_, _%_}
 use mathlib.Core.Bool.{Bool, _&&_, cond}
 use mathlib.Core.List.{List, [], _∷_}
 use lib.ListN.{length}
@@ -8,7 +8,7 @@ use lib.Dec.{eqb}
 use Rattle.mps.specs.Words.{keep, each, joined, among, only}
 use Rattle.mps.specs.Sums.{total}
 use Rattle.mps.specs.Refusals.{roomNumber}
-use Rattle.mps.specs.Layout.{Entry, ofType, enabled, idOf, interruptType, sourceBus, sourceIrq, pins, devices, destination, everyone, baseEntries}
+use Rattle.mps.specs.Layout.{Entry, ofType, enabled, idOf, interruptType, sourceBus, sourceIrq, busSlots, destination, everyone, baseEntries}
 use Rattle.mps.specs.Rules.{Side, ioSide, localSide, enabledOf}
 use Rattle.mps.specs.Sections.{rows}
 use Rattle.mps.specs.Rooms.{tooSmall}
@@ -19,10 +19,6 @@ use Rattle.mps.specs.declared.Lent.the-variants.{Count, Refused}
 -- The side that a query is about.
 abbrev pub sideOf : Bool → Side
 sideOf local = cond local localSide ioSide
-
--- The slots of a bus: what a source IRQ can tell without its bit 7.
-abbrev pub busSlots : ℕ
-busSlots = devices * pins
 
 -- Whether an interrupt entry has this interrupt type, source bus and source IRQ; where `low`, the IRQ without its bit 7. With
 -- the whole IRQ it is `asked`.

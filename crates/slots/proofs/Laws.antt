@@ -8,7 +8,7 @@ use lib.Dec.{eqb}
 use lib.ListN.{length, replicate}
 use borrow.Author.Tests.{eq-eqb, eqb-true}
 use Rattle.mps.specs.Words.{among, any, keep, each, only, joined, below, part}
-use Rattle.mps.specs.Layout.{Entry, ofType, ioInterruptType, entrySize, headerSize, idOf, sourceBus, sourceIrq, pins, devices, pinOf, deviceOf, baseLength, baseEntryLength, basePart, baseEntries}
+use Rattle.mps.specs.Layout.{Entry, ofType, ioInterruptType, entrySize, headerSize, idOf, sourceBus, sourceIrq, pins, devices, pinOf, deviceOf, baseLength, baseEntryLength, basePart, baseEntries, busSlots}
 use Rattle.mps.specs.Sections.{rows}
 use Rattle.mps.specs.Slots.{Slot, slot, namesSlot, isPci, onPci, slotSize, slotNamed, slots, slotsOf}
 use Rattle.mps.specs.declared.Sections.{Sections}
@@ -21,7 +21,7 @@ use Rattle.roll.specs.Roll.{busBit, marked, enrolled, OnRoll}
 use Rattle.roll.proofs.Laws.{enrolled-on}
 use Rattle.judge.specs.Placed.{Placed}
 use Rattle.judge.proofs.Laws.{placed-pci}
-use Rattle.slots.specs.Sets.{busSlots, slotsMost, slotNumber, namedOn, slotBytes, withSlots, slotsIn}
+use Rattle.slots.specs.Sets.{slotsMost, slotNumber, namedOn, slotBytes, withSlots, slotsIn}
 use Rattle.slots.proofs.Sets.{has-only}
 use Rattle.slots.proofs.Writing.{length-slots}
 

@@ -7,13 +7,10 @@ use lib.Bits.{bitOr}
 use lib.Dec.{eqb}
 use lib.ListN.{getD, set}
 use Rattle.mps.specs.Words.{bit, only, keep, each, below}
-use Rattle.mps.specs.Layout.{Entry, sourceBus, sourceIrq, pins, devices}
+use Rattle.mps.specs.Layout.{Entry, sourceBus, sourceIrq, busSlots, pins, devices}
 use Rattle.roll.specs.Roll.{busBit, marked}
 
--- How many slots a bus has, and how many there are.
-abbrev pub busSlots : ℕ
-busSlots = 128
-
+-- How many slots there are, on 256 buses.
 abbrev pub slotsMost : ℕ
 slotsMost = 32768
 

@@ -5,7 +5,7 @@ use mathlib.Core.Bool.{cond}
 use mathlib.Core.Logic.{⊎-elim}
 use lib.ListN.{getD}
 use borrow.Author.Needs.{needs}
-use Rattle.routes.specs.Pairs.{busSlots}
+use Rattle.mps.specs.Layout.{busSlots}
 use Rattle.routes.proofs.Counting.{wired-other, wired-rest}
 use Rattle.routes.proofs.asked.Statement.{statement}
 use Rattle.routes.proofs.asked.Tie as tie
