@@ -1,6 +1,6 @@
 -- The pieces of a list of bytes, one by one: where each stands, the list that they make joined, one of them replaced.
 -- Assumes nothing.
-use Prim.Native.Nat.{ℕ, zero, suc, pred, _+_, _≤_, _<_}
+use Prim.Native.Nat.{ℕ, zero, suc, pred, _+_, _*_, _≤_, _<_}
 use mathlib.Core.Path.{_≡_, refl, ap, sym, _∙_}
 use mathlib.Core.Bool.{Bool, true}
 use mathlib.Core.List.{List, [], _∷_, _++_}
@@ -12,7 +12,7 @@ use borrow.Author.Tests.{leb-true, le-leb, ltb-false}
 use Rattle.mps.specs.Words.{byte, every, each, joined, cut}
 use Rattle.mps.specs.Refusals.{Rule, _when_, refusal, typeNumber, cutNumber, orderNumber}
 use Rattle.mps.specs.Sums.{total}
-use Rattle.mps.specs.Layout.{Entry, type, baseEntryLength, lastBaseType}
+use Rattle.mps.specs.Layout.{Entry, type, entrySize, baseEntryLength, lastBaseType}
 use Rattle.mps.specs.Table.{entryFault, walkFrom}
 use Rattle.mps.specs.Edits.{before}
 use Rattle.laws.proofs.Tests.{whether, and-parts}
@@ -190,3 +190,12 @@ walked-whole before [] w = refl
 walked-whole before (e ∷ es) w =
     let p = first-none (entryFault before e) (walkFrom (type e) es) w in
     rw (le-leb (baseEntryLength e) (length e) (fault-whole before e (p .0))) (walked-whole (type e) es (p .1))
+
+-- Whole ones have at least eight bytes each.
+pub whole-least : (es : List Entry) → whole baseEntryLength es ≡ true → length es * entrySize ≤ length (asOne es)
+unfolding joined baseEntryLength
+whole-least [] w = omega arith
+whole-least (e ∷ es) w =
+    let p = whole-parts baseEntryLength e es w in
+    let least : entrySize ≤ baseEntryLength e = whether (eqb (byte e 0) 0) (λ t. rw t (omega arith)) (λ f. rw f (omega arith)) in
+    omega (arith, length-append e (asOne es), least, p .0, whole-least es (p .1))

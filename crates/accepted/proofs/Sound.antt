@@ -1,15 +1,15 @@
 -- The rows 5 to 13 that an accepted table has passed, as facts. Assumes nothing.
-use Prim.Native.Nat.{ℕ, _≤_, _<_}
+use Prim.Native.Nat.{ℕ, _+_, _-_, _*_, _≤_, _<_}
 use mathlib.Core.Path.{_≡_}
 use mathlib.Core.Bool.{false}
 use mathlib.Core.List.{List, _∷_}
 use native.Mathlib.Omega.{arith}
-use lib.ListN.{length, take, drop}
+use lib.ListN.{length, take, drop, length-take}
 use borrow.Author.Tests.{eq-eqb, eqb-true, le-ltb, ltb-false, not-false}
 use Rattle.mps.specs.Words.{text, any}
 use Rattle.mps.specs.Refusals.{refusal}
 use Rattle.mps.specs.Sums.{sum256}
-use Rattle.mps.specs.Layout.{specRevision, knownRevision, partMost, headerSize, signature, revision, baseLength, baseBytes, entryCount, extendedLength, extendedChecksum, extendedEnd, extendedPart, baseEntries, extendedEntries}
+use Rattle.mps.specs.Layout.{specRevision, knownRevision, partMost, headerSize, entrySize, signature, revision, baseLength, baseBytes, basePart, baseEntryLength, entryCount, extendedLength, extendedChecksum, extendedEnd, extendedPart, baseEntries, extendedEntries}
 use Rattle.mps.specs.Table.{headerCut, wrongSignature, wrongBaseLength, wrongBaseSum, wrongRevision, walkFrom, walkFault, wrongType, cutOrMiscounted, descendingType, wrongExtendedPart, wrongExtended, extendedFrom}
 use Rattle.mps.specs.Judge.{tableRules, tableRefusal}
 use Rattle.laws.proofs.Tests.{or-parts}
@@ -18,6 +18,7 @@ use Rattle.laws.proofs.Small.{Bytes}
 use Rattle.numbers.proofs.Laws.{le-two}
 use Rattle.slices.proofs.Laws.{same-is, same-true}
 use Rattle.accepted.proofs.Walk.{walk-fault, fault-none}
+use Rattle.accepted.proofs.Pieces.{base-told, joined-cut, walked-whole, whole-least}
 
 pub record Sound (t : List ℕ) : Type 0 where
   pub long : headerSize ≤ length t
@@ -102,3 +103,12 @@ sound-rest t s = refusal-passed (take 9 (tableRules t)) (drop 9 (tableRules t)) 
 -- An accepted table counts its entries in two bytes.
 pub entries-most : (t : List ℕ) → Bytes t → tableRefusal t ≡ 0 → length (baseEntries t) < 65536
 entries-most t b a = omega (arith, sound t a .counted, le-two t 34, b 34, b 35)
+
+-- Each entry has at least eight bytes, all within the base.
+pub entries-least : (t : List ℕ) → tableRefusal t ≡ 0 → headerSize + length (baseEntries t) * entrySize ≤ baseLength t
+unfolding baseEntries
+entries-least t a =
+    let s = sound t a in
+    let least = whole-least (baseEntries t) (walked-whole 0 (baseEntries t) (s .walked)) in
+    let all : length (baseEntries t) * entrySize ≤ length (basePart t) = rw (joined-cut baseEntryLength base-told (basePart t)) at least in
+    omega (arith, all, s .low, length-take (baseLength t - headerSize) (drop headerSize t))

@@ -1,13 +1,14 @@
 -- Laws of `joined`, the lists that a function makes of each element, one behind the other. Assumes nothing.
-use Prim.Native.Nat.{ℕ, _*_, _≤_}
-use mathlib.Core.Path.{_≡_, refl, sym}
+use Prim.Native.Nat.{ℕ, zero, suc, _+_, _*_, _≤_, _<_}
+use mathlib.Core.Path.{_≡_, refl, ap, sym, _∙_}
 use mathlib.Core.Bool.{Bool, true, false, _&&_}
 use mathlib.Core.List.{List, [], _∷_, _++_, append-assoc}
-use native.Mathlib.Nat.{suc-mul}
+use native.Mathlib.Nat.{zero-add, zero-mul, suc-mul}
 use native.Mathlib.Omega.{arith}
-use lib.ListN.{length, length-append}
-use Rattle.mps.specs.Words.{only, keep, each, joined}
+use lib.ListN.{length, getD, length-append, List·getD-append}
+use Rattle.mps.specs.Words.{byte, only, keep, each, joined}
 use Rattle.laws.proofs.Tests.{whether}
+use Rattle.laws.proofs.Lists.{byte-right}
 
 pub joined-append : {A B : Type 0} (f : A → List B) (xs ys : List A) → joined f (xs ++ ys) ≡ joined f xs ++ joined f ys
 unfolding joined
@@ -51,3 +52,22 @@ unfolding joined
 joined-most f m h [] = omega arith
 joined-most f m h (x ∷ xs) =
     rw (length-append (f x) (joined f xs), suc-mul (length xs) m) (omega (arith, h x, joined-most f m h xs))
+
+-- ---- Pieces of one length
+
+module _ {A : Type 0} (f : A → List ℕ) (m : ℕ) (all : (x : A) → length (f x) ≡ m) where
+  pub joined-length : (xs : List A) → length (joined f xs) ≡ length xs * m
+  unfolding joined
+  joined-length [] = omega arith
+  joined-length (x ∷ xs) = rw (length-append (f x) (joined f xs), suc-mul (length xs) m) (omega (arith, all x, joined-length xs))
+
+  -- The bytes of the piece at a place.
+  pub joined-at : (d : A) (xs : List A) (i j : ℕ) → i < length xs → j < m → byte (joined f xs) (i * m + j) ≡ byte (f (getD xs i d)) j
+  unfolding joined
+  joined-at d [] i j h k = absurd (omega arith)
+  joined-at d (x ∷ xs) zero j h k = rw (zero-mul m, zero-add j) (List·getD-append (f x) (joined f xs) 0 j (omega (arith, all x)))
+  joined-at d (x ∷ xs) (suc i) j h k =
+      rw (suc-mul i m)
+      (byte-right (f x) (joined f xs) (i * m + m + j) (omega (arith, all x))
+      ∙ ap (byte (joined f xs)) (omega (arith, all x))
+      ∙ joined-at d xs i j (omega arith) k)

@@ -3,6 +3,7 @@ pub mod Bits
 pub mod Lists
 pub mod Joined
 pub mod Rising
+pub mod Sieve
 pub mod Pigeons
 pub mod Parts
 pub mod Stores

@@ -1,7 +1,7 @@
 -- Laws of the words about lists. Assumes nothing.
 use Prim.Native.Nat.{ℕ, zero, suc, _+_, _-_, _≤_, _<_}
 use mathlib.Core.Path.{_≡_, refl, ap, sym, _∙_}
-use mathlib.Core.Bool.{Bool, true, false, _&&_, false≢true, and-false, or-true}
+use mathlib.Core.Bool.{Bool, true, false, _||_, _&&_, false≢true, and-false, or-true}
 use mathlib.Core.List.{List, [], _∷_, _++_}
 use native.Mathlib.Omega.{arith}
 use native.Mathlib.Nat.{sub-zero}
@@ -11,7 +11,7 @@ use lib.Seq.{drop-cons}
 use lib.Dec.{eqb}
 use borrow.Author.Tests.{eqb-true, eqb-false, eq-eqb}
 use Rattle.mps.specs.Words.{byte, among, keep, any, each, exactly}
-use Rattle.laws.proofs.Tests.{whether, either}
+use Rattle.laws.proofs.Tests.{whether, either, or-parts, or-assoc}
 
 -- ---- among
 
@@ -47,14 +47,27 @@ among-front x y [] e f = absurd (among-cases x y [] e (eqb-false x y f) (among-n
 among-front x y (z ∷ a) e f =
     among-cases x z (a ++ (y ∷ [])) e (λ q. among-first x z a q) (λ q. among-rest x z a (among-front x y a q f))
 
+-- The number at a place is among them, and one that is among them is at some place.
+pub at-among : (xs : List ℕ) (i : ℕ) → i < length xs → among (byte xs i) xs ≡ true
+at-among [] i h = absurd (omega arith)
+at-among (x ∷ xs) zero h = among-first x x xs refl
+at-among (x ∷ xs) (suc i) h = among-rest (byte xs i) x xs (at-among xs i (omega arith))
+
+pub among-at : (x : ℕ) (xs : List ℕ) → among x xs ≡ true → (i : ℕ) × (i < length xs) × (byte xs i ≡ x)
+among-at x [] a = absurd (among-none x a)
+among-at x (y ∷ xs) a =
+    among-cases x y xs a
+    (λ q. (0, omega arith, sym q))
+    (λ b. let r = among-at x xs b in (suc (r .0), omega (arith, r .1), r .2))
+
 -- Every number of one list is among those of another.
 abbrev pub Within : List ℕ → List ℕ → Type 0
 Within xs ys = (z : ℕ) → among z xs ≡ true → among z ys ≡ true
 
 -- ---- any
 
--- Where some number passes, there is one that does.
-pub any-one : (p : ℕ → Bool) (xs : List ℕ) → any p xs ≡ true → (x : ℕ) × (p x ≡ true)
+-- Where some element passes, there is one that does.
+pub any-one : {A : Type 0} (p : A → Bool) (xs : List A) → any p xs ≡ true → (x : A) × (p x ≡ true)
 unfolding any
 any-one p [] e = absurd (false≢true e)
 any-one p (x ∷ xs) e = either (p x) (any p xs) e (λ h. (x, h)) (any-one p xs)
@@ -64,6 +77,18 @@ pub any-among : (p : ℕ → Bool) (x : ℕ) (xs : List ℕ) → among x xs ≡ 
 unfolding any
 any-among p x [] a e = absurd (among-none x a)
 any-among p x (y ∷ xs) a e = among-cases x y xs a (λ q. rw (← q, e)) (λ b. rw (any-among p x xs b e) (or-true (p y)))
+
+-- Where none passes, the one at each place does not.
+pub any-none : {A : Type 0} (p : A → Bool) (d : A) (xs : List A) → any p xs ≡ false → (i : ℕ) → i < length xs → p (getD xs i d) ≡ false
+unfolding any
+any-none p d [] e i h = absurd (omega arith)
+any-none p d (x ∷ xs) e zero h = or-parts (p x) (any p xs) e .0
+any-none p d (x ∷ xs) e (suc i) h = any-none p d xs (or-parts (p x) (any p xs) e .1) i (omega arith)
+
+pub any-append : {A : Type 0} (p : A → Bool) (xs ys : List A) → any p (xs ++ ys) ≡ (any p xs || any p ys)
+unfolding any
+any-append p [] ys = refl
+any-append p (x ∷ xs) ys = rw (any-append p xs ys) (or-assoc (p x) (any p xs) (any p ys))
 
 -- From place i on: nothing is left, the element there passes the test, or it does not.
 module _ {A : Type 0} (p : A → Bool) (l : List A) (d : A) (i : ℕ) where
@@ -109,6 +134,13 @@ any-and b p [] = sym (and-false b)
 any-and true p (x ∷ xs) = refl
 any-and false p (x ∷ xs) = any-and false p xs
 
+-- Two tests that agree at every place keep the same.
+pub keep-agree :
+    {A : Type 0} (p q : A → Bool) (d : A) (xs : List A) → ((i : ℕ) → i < length xs → p (getD xs i d) ≡ q (getD xs i d)) → keep p xs ≡ keep q xs
+unfolding keep
+keep-agree p q d [] h = refl
+keep-agree p q d (x ∷ xs) h = rw (h 0 (omega arith), keep-agree p q d xs (λ i l. h (suc i) (omega arith)))
+
 -- A test that nothing passes keeps nothing.
 pub keep-nothing : {A : Type 0} (xs : List A) → keep (λ (x : A). false) xs ≡ []
 unfolding keep
@@ -134,6 +166,11 @@ pub length-each : {A B : Type 0} (f : A → B) (xs : List A) → length (each f 
 unfolding each
 length-each f [] = refl
 length-each f (x ∷ xs) = ap suc (length-each f xs)
+
+pub keep-each : {A B : Type 0} (f : A → B) (p : B → Bool) (xs : List A) → keep p (each f xs) ≡ each f (keep (λ (x : A). p (f x)) xs)
+unfolding keep each
+keep-each f p [] = refl
+keep-each f p (x ∷ xs) = whether (p (f x)) (λ e. rw (e, keep, each, keep-each f p xs)) (λ e. rw (e, keep, keep-each f p xs))
 
 -- A number is among those that a function makes, where it is made of some element.
 pub among-each : {A : Type 0} (x : ℕ) (f : A → ℕ) (xs : List A) → among x (each f xs) ≡ any (λ (y : A). eqb x (f y)) xs

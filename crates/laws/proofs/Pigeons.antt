@@ -1,5 +1,5 @@
 -- The pigeonhole: numbers that are all among fewer ones are not all different. Assumes nothing.
-use Prim.Native.Nat.{ℕ, zero, suc, _≤_, _<_}
+use Prim.Native.Nat.{ℕ, zero, suc, _+_, _≤_, _<_}
 use mathlib.Core.Path.{_≡_, refl, sym, ap, _∙_}
 use mathlib.Core.Bool.{true, false, true≢false}
 use mathlib.Core.List.{List, [], _∷_}
@@ -7,9 +7,10 @@ use native.Mathlib.Omega.{arith}
 use lib.ListN.{length}
 use lib.Dec.{ltb, eqb}
 use borrow.Author.Tests.{eqb-true, eqb-false, ltb-true, ltb-false}
-use Rattle.mps.specs.Words.{among, twice}
+use Rattle.mps.specs.Words.{among, twice, rising, below}
 use Rattle.laws.proofs.Tests.{whether}
 use Rattle.laws.proofs.Small.{Bytes}
+use Rattle.laws.proofs.Rising.{length-rising}
 use Rattle.laws.proofs.Lists.{among-none, among-first, among-rest, among-cases, Within}
 
 -- A number can be taken out of a list that it is among, and the others stay.
@@ -31,25 +32,22 @@ pigeonhole (x ∷ xs) ys f h = whether (among x xs) (λ e. rw e) λ e.
     (λ z a. t .2 z (λ q. true≢false (sym a ∙ ap (λ (k : ℕ). among k xs) q ∙ e)) (f z (among-rest z x xs a)))
     (omega arith))
 
+-- So different ones are no more than those that they are among.
+pub apart-most : (xs ys : List ℕ) → Within xs ys → twice xs ≡ false → length xs ≤ length ys
+apart-most xs ys f d =
+    whether (ltb (length ys) (length xs))
+    (λ q. absurd (true≢false (sym (pigeonhole xs ys f (ltb-true (length ys) (length xs) q)) ∙ d)))
+    (λ q. ltb-false (length ys) (length xs) q)
+
 -- ---- Bytes
 
--- The numbers below n.
-below : ℕ → List ℕ
-below zero = []
-below (suc n) = n ∷ below n
-
-length-below : (n : ℕ) → length (below n) ≡ n
-unfolding below
-length-below zero = refl
-length-below (suc n) = ap suc (length-below n)
-
-among-below : (n x : ℕ) → x < n → among x (below n) ≡ true
-unfolding below
-among-below zero x h = absurd (omega arith)
-among-below (suc n) x h =
-    whether (eqb x n)
-    (λ q. among-first x n (below n) (eqb-true x n q))
-    (λ q. among-rest x n (below n) (among-below n x (omega (arith, eqb-false x n q))))
+among-rising : (n k x : ℕ) → k ≤ x → x < k + n → among x (rising n k) ≡ true
+unfolding rising
+among-rising zero k x l h = absurd (omega (arith, l, h))
+among-rising (suc n) k x l h =
+    whether (eqb x k)
+    (λ q. among-first x k (rising n (suc k)) (eqb-true x k q))
+    (λ q. among-rest x k (rising n (suc k)) (among-rising n (suc k) x (omega (arith, l, eqb-false x k q)) (omega (arith, h))))
 
 among-byte : (xs : List ℕ) → Bytes xs → (x : ℕ) → among x xs ≡ true → x < 256
 among-byte [] b x a = absurd (among-none x a)
@@ -57,8 +55,4 @@ among-byte (y ∷ ys) b x a = among-cases x y ys a (λ q. rw q (b 0)) (among-byt
 
 -- There are no more than 256 different bytes.
 pub bytes-most : (xs : List ℕ) → Bytes xs → twice xs ≡ false → length xs ≤ 256
-bytes-most xs b d =
-    whether (ltb 256 (length xs))
-    (λ q. absurd (true≢false (sym (pigeonhole xs (below 256) (λ z a. among-below 256 z (among-byte xs b z a))
-    (rw (length-below 256) (ltb-true 256 (length xs) q))) ∙ d)))
-    (λ q. omega (arith, ltb-false 256 (length xs) q))
+bytes-most xs b d = rw (length-rising 256 0) at (apart-most xs (below 256) (λ z a. among-rising 256 0 z (omega arith) (among-byte xs b z a)) d)

@@ -7,7 +7,7 @@ use native.Mathlib.Omega.{arith}
 use lib.ListN.{getD, set, take, drop}
 use lib.Seq.{sets}
 use Rattle.mps.specs.Words.{byte, part, keep, any, each, cut}
-use Rattle.mps.specs.Layout.{Entry}
+use Rattle.mps.specs.Layout.{Entry, headerSize, baseLength, basePart, baseEntryLength, baseEntries}
 use Rattle.mps.specs.Sections.{rows}
 use Rattle.laws.proofs.Tests.{whether, or-four}
 
@@ -57,6 +57,10 @@ small-cut len (suc k) (x ∷ s) b = small-cut len k s (λ j. b (suc j))
 small-cut len zero (x ∷ s) b =
     small-more (bytes-take (len (x ∷ s)) (x ∷ s) b) (small-cut len (pred (len (x ∷ s))) s (λ j. b (suc j)))
 
+pub small-base : (t : List ℕ) → Bytes t → Small (baseEntries t)
+unfolding baseEntries
+small-base t b = small-cut baseEntryLength 0 (basePart t) (bytes-part headerSize (baseLength t) t b)
+
 pub small-keep : (p : Entry → Bool) {es : List Entry} → Small es → Small (keep p es)
 unfolding keep
 small-keep p small-none = small-none
@@ -68,6 +72,12 @@ unfolding rows
 small-rows n s b = small-keep _ (small-cut (λ _. n) 0 s b)
 
 -- ---- What is read of small entries
+
+-- One byte of the entry at a place.
+pub small-at : {es : List Entry} → Small es → (i k : ℕ) → byte (getD es i []) k < 256
+small-at small-none i k = omega arith
+small-at (small-more b h) zero k = b k
+small-at (small-more b h) (suc i) k = small-at h i k
 
 -- One byte of each entry.
 pub below-each : (k : ℕ) {es : List Entry} → Small es → Bytes (each (λ e. byte e k) es)

@@ -14,6 +14,7 @@ use Rattle.mps.specs.Judge.{tableRefusal}
 use Rattle.mps.specs.Listing.{listing, listRefusal, listed, listLeft, programOutput, printed, printLeft}
 use Rattle.mps.specs.Writing.{Parts, image, imageSize, earlyRefusal, writeRefusal, written, finished, writeLeft}
 use Rattle.mps.specs.Routes.{Question, routesOf, routeRefusal, routed, routesLeft}
+use Rattle.mps.specs.Slots.{Slot, slotRoutesOf, slotRefusal, slotRouted, slotRoutesLeft, slotsOf, slotsRefusal, slotsListed, slotsLeft}
 use Rattle.mps.specs.declared.Lent.the-variants.{Count}
 use Rattle.laws.proofs.Tests.{whether}
 use Rattle.laws.proofs.Refusals.{first-none}
@@ -34,6 +35,14 @@ module _ (d room : List ℕ) where
 pub routes-kept : (q : Question) (t room : List ℕ) → (numberOf (lentNumbers (routed q t room)) ≡ 0 → ⊥) → routesLeft q t room ≡ room
 unfolding routed routesLeft
 routes-kept q t room = lent-kept (routeRefusal q t room) _ (routesOf q t) room
+
+pub slot-kept : (s : Slot) (t room : List ℕ) → (numberOf (lentNumbers (slotRouted s t room)) ≡ 0 → ⊥) → slotRoutesLeft s t room ≡ room
+unfolding slotRouted slotRoutesLeft
+slot-kept s t room = lent-kept (slotRefusal s t room) _ (slotRoutesOf s t) room
+
+pub slots-kept : (t room : List ℕ) → (numberOf (lentNumbers (slotsListed t room)) ≡ 0 → ⊥) → slotsLeft t room ≡ room
+unfolding slotsListed slotsLeft
+slots-kept t room = lent-kept (slotsRefusal t room) _ (slotsOf t) room
 
 -- Of an edit that is Edits' refused-unchanged: whatever is answered but Done.
 

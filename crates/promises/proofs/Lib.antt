@@ -2,7 +2,12 @@ pub mod Answered
 pub mod Given
 pub mod Judge
 pub mod Climb
+pub mod Pairs
 pub mod Routes
+pub mod Slots
+pub mod SlotRoutes
+pub mod SlotCodes
+pub mod SlotList
 pub mod Addresses
 pub mod Headers
 pub mod Again

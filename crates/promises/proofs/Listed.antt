@@ -33,7 +33,7 @@ use Rattle.laws.proofs.Refusals.{first-none, refusal-pass}
 use Rattle.laws.proofs.Lent.{count-given}
 use Rattle.laws.proofs.Lists.{any-keep}
 use Rattle.laws.proofs.Joined.{joined-append, joined-same, joined-each}
-use Rattle.laws.proofs.Small.{Bytes, Small, small-none, small-more, small-cut, bytes-part, any-or}
+use Rattle.laws.proofs.Small.{Bytes, Small, small-none, small-more, small-cut, small-base, bytes-part, any-or}
 use Rattle.numbers.proofs.Laws.{le-below}
 use Rattle.lengths.proofs.Laws.{extended-below}
 use Rattle.accepted.proofs.Sound.{sound, sound-rest}
@@ -325,7 +325,7 @@ table-readable :
 unfolding tableFields every visible text baseEntries extendedEntries
 table-readable p b a t small r h k l =
     let es = baseEntries t in
-    let bases = small-cut baseEntryLength 0 (basePart t) (bytes-part headerSize (baseLength t) t small) in
+    let bases = small-base t small in
     let others = small-cut extendedEntryLength 0 (extendedPart t) (bytes-part (baseLength t) (extendedEnd t) t small) in
     let base = each-readable baseFields (wrongBase es) (λ e n q. base-readable e n es q) bases (base-right t r) in
     let ranges = ranges-right t r in

@@ -25,6 +25,7 @@ use Rattle.mps.specs.Sections.{sections}
 use Rattle.mps.specs.Listing.{listing, listRefusal, listed, programOutput, printed}
 use Rattle.mps.specs.Writing.{Parts, baseSize, header, baseSumOf, extendedSumOf, image, imageSize, partRules, earlyRefusal, writeRefusal, written, parted}
 use Rattle.mps.specs.Routes.{Question, pairSize, routesOf, lineRules, routeRefusal, routed}
+use Rattle.mps.specs.Slots.{Slot, slotRoutesOf, slotRules, slotRefusal, slotRouted, slotSize, slotsOf, slotsRefusal, slotsListed}
 use Rattle.mps.specs.Addresses.{seenBy, addressRules, seen}
 use Rattle.mps.specs.declared.Parted.the-variants.{Parts as Parted·Parts}
 use Rattle.mps.specs.Edits.{Edit, editRules, editRefusal, edited, innerRefusal}
@@ -35,7 +36,7 @@ use Rattle.laws.proofs.Lent.{lent-19, lent-before, lent-of}
 use Rattle.sums.proofs.Laws.{stored-append}
 use Rattle.writer.proofs.Laws.{length-image}
 use Rattle.writer.proofs.Most.{early-fits}
-use Rattle.promises.specs.Numbered.{OneOf, tableNumbers, pointerNumbers, editNumbers, addressNumbers, routeNumbers, readNumbers, listNumbers, printNumbers, laterNumbers, writeNumbers}
+use Rattle.promises.specs.Numbered.{OneOf, tableNumbers, pointerNumbers, editNumbers, addressNumbers, routeNumbers, slotNumbers, slotsNumbers, readNumbers, listNumbers, printNumbers, laterNumbers, writeNumbers}
 use Rattle.promises.proofs.Given.{Exactly}
 use Rattle.promises.proofs.Answered.{judged-of, examined-of, parted-of, told-of, seen-of, edited-of}
 use Rattle.promises.proofs.Headers.{header-sum, image-front, image-base-length}
@@ -116,6 +117,24 @@ module _ (t : List ℕ) where
     pub routes-numbered : OneOf (λ n. lentOf n (length (routesOf q t) / pairSize)) (routeRefusal q t room) routeNumbers (routed q t room)
     unfolding routed routeRefusal lentRefusal roomRules lineRules tableRules each
     routes-numbered = one-of (routeRefusal q t room) refl (refusal-among (roomRules (lineRules q t) (tooSmall (length (routesOf q t)) room)))
+
+  module _ (s : Slot) (room : List ℕ) where
+    pub slot-number : numberOf (lentNumbers (slotRouted s t room)) ≡ slotRefusal s t room
+    unfolding slotRouted
+    slot-number = lent-of (slotRefusal s t room) _
+
+    pub slot-numbered : OneOf (λ n. lentOf n (length (slotRoutesOf s t) / pairSize)) (slotRefusal s t room) slotNumbers (slotRouted s t room)
+    unfolding slotRouted slotRefusal lentRefusal roomRules slotRules tableRules each
+    slot-numbered = one-of (slotRefusal s t room) refl (refusal-among (roomRules (slotRules s t) (tooSmall (length (slotRoutesOf s t)) room)))
+
+  module _ (room : List ℕ) where
+    pub slots-number : numberOf (lentNumbers (slotsListed t room)) ≡ slotsRefusal t room
+    unfolding slotsListed
+    slots-number = lent-of (slotsRefusal t room) _
+
+    pub slots-numbered : OneOf (λ n. lentOf n (length (slotsOf t) / slotSize)) (slotsRefusal t room) slotsNumbers (slotsListed t room)
+    unfolding slotsListed slotsRefusal lentRefusal roomRules tableRules each
+    slots-numbered = one-of (slotsRefusal t room) refl (refusal-among (roomRules (tableRules t) (tooSmall (length (slotsOf t)) room)))
 
   -- "A refusal returns its number alone, except 23": the inner number goes with it (Edits, inner-number).
   module _ (e : Edit) where

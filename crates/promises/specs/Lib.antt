@@ -3,3 +3,4 @@ pub mod Declared
 pub mod Numbered
 pub mod Runs
 pub mod Shown
+pub mod Slots

@@ -1,5 +1,5 @@
 -- Demand 1: a call "ends with an answer or a numbered refusal of document 01". Which numbers each call may give, as the
--- paper's paragraph behind its table says.
+-- paper's paragraph behind its table says, and document 02 of what it asks for.
 use Prim.Native.Nat.{ℕ}
 use mathlib.Core.Path.{_≡_}
 use mathlib.Core.Bool.{true}
@@ -30,6 +30,13 @@ addressNumbers = tableNumbers ++ (24 ∷ [])
 
 abbrev pub routeNumbers : List ℕ
 routeNumbers = tableNumbers ++ (24 ∷ 19 ∷ [])
+
+-- Of a PCI slot, "25, .. after 24 and before 19"; the listing of slots tests the table and 19 (document 02, ask 1).
+abbrev pub slotNumbers : List ℕ
+slotNumbers = tableNumbers ++ (24 ∷ 25 ∷ 19 ∷ [])
+
+abbrev pub slotsNumbers : List ℕ
+slotsNumbers = tableNumbers ++ (19 ∷ [])
 
 -- The dump reader: 1 to 18.
 abbrev pub readNumbers : List ℕ

@@ -127,7 +127,7 @@ module _ (bus device pin : ℕ) (d : device < devices) (p : pin < pins) where
       let f = eqb-true (x % pins) pin (s .1) in
       eq-eqb (x % busSlots) (device * pins + pin) (omega (arith, e, f, d, p)))
 
-  slot-test : (e : Entry)
+  pub slot-test : (e : Entry)
       → (ofType ioInterruptType e && wired vectored bus (device * pins + pin) true e) ≡ wiredFrom (slot bus device pin) e
   unfolding wired wiredFrom namesSlot
   slot-test e = rw (packed (sourceIrq e)) (turned (ofType ioInterruptType e) (eqb (interruptType e) vectored) _ _ _)

@@ -10,7 +10,7 @@ use borrow.Author.Tests.{eq-eqb, eqb-true}
 use Rattle.mps.specs.Words.{among, any, keep, each, only, joined, below, part}
 use Rattle.mps.specs.Layout.{Entry, ofType, ioInterruptType, entrySize, headerSize, idOf, sourceBus, sourceIrq, pins, devices, pinOf, deviceOf, baseLength, baseEntryLength, basePart, baseEntries, busSlots}
 use Rattle.mps.specs.Sections.{rows}
-use Rattle.mps.specs.Slots.{Slot, slot, namesSlot, isPci, onPci, slotSize, slotNamed, slots, slotsOf}
+use Rattle.mps.specs.Slots.{slot, namesSlot, isPci, onPci, slotSize, slotNamed, slots, slotsOf}
 use Rattle.mps.specs.declared.Sections.{Sections}
 use Rattle.laws.proofs.Tests.{whether, same-test, and-parts}
 use Rattle.laws.proofs.Lists.{any-keep, any-and, among-each, keep-most}
@@ -21,18 +21,11 @@ use Rattle.roll.specs.Roll.{busBit, marked, enrolled, OnRoll}
 use Rattle.roll.proofs.Laws.{enrolled-on}
 use Rattle.judge.specs.Placed.{Placed}
 use Rattle.judge.proofs.Laws.{placed-pci}
-use Rattle.slots.specs.Sets.{slotsMost, slotNumber, namedOn, slotBytes, withSlots, slotsIn}
+use Rattle.slots.specs.Sets.{slotsMost, slotNumber, namedOn, slotOf, isNamed, slotBytes, withSlots, slotsIn}
 use Rattle.slots.proofs.Sets.{has-only}
 use Rattle.slots.proofs.Writing.{length-slots}
 
 -- ---- The listing, by numbers
-
--- The slot that a number is, and whether entries name it on a PCI bus.
-abbrev slotAt : ℕ → Slot
-slotAt n = slot (n / busSlots) (n / pins % devices) (n % pins)
-
-unfoldable pub isNamed : List Entry → ℕ → Bool
-isNamed es n = onPci es (n / busSlots) && any (namesSlot (slotAt n)) es
 
 module _ (es : List Entry) where
   abbrev bytesOf : ℕ → List ℕ
@@ -98,10 +91,10 @@ module _ (n : ℕ) where
       (omega (arith, eqb-true bus (n / 128) (q .0), eqb-true (irq / 4 % 32) (n / 4 % 32) (q .1), eqb-true (irq % 4) (n % 4) (p .1))))
 
   -- Of type 3 entries among all.
-  names-rows : (es rs : List Entry) → Small es → keep (ofType ioInterruptType) es ≡ rs → any (namesSlot (slotAt n)) es ≡ any isSource rs
+  names-rows : (es rs : List Entry) → Small es → keep (ofType ioInterruptType) es ≡ rs → any (namesSlot (slotOf n)) es ≡ any isSource rs
   unfolding namesSlot
   names-rows es rs small e =
-      any-same (namesSlot (slotAt n)) (λ (x : Entry). ofType ioInterruptType x && isSource x)
+      any-same (namesSlot (slotOf n)) (λ (x : Entry). ofType ioInterruptType x && isSource x)
       (λ x b. ap (λ (k : Bool). k && eqb (pinOf x) (n % 4)) (and-assoc (ofType ioInterruptType x) (eqb (sourceBus x) (n / 128)) (eqb (deviceOf x) (n / 4 % 32)))
       ∙ and-assoc (ofType ioInterruptType x) (eqb (sourceBus x) (n / 128) && eqb (deviceOf x) (n / 4 % 32)) (eqb (pinOf x) (n % 4)))
       small

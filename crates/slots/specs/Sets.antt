@@ -1,13 +1,14 @@
 -- Slots as numbers, and sets of them, as the code makes the listing. A slot is bus * 128 + device * 4 + pin, so that the
 -- numbers rise as the listing does. That the listing is made of these numbers: proofs/Laws.antt.
 use Prim.Native.Nat.{ℕ, zero, suc, _+_, _*_, _/_, _%_, _^_}
-use mathlib.Core.Bool.{Bool}
+use mathlib.Core.Bool.{Bool, _&&_}
 use mathlib.Core.List.{List, [], _∷_, _++_}
 use lib.Bits.{bitOr}
 use lib.Dec.{eqb}
 use lib.ListN.{getD, set}
-use Rattle.mps.specs.Words.{bit, only, keep, each, below}
+use Rattle.mps.specs.Words.{bit, any, only, keep, each, below}
 use Rattle.mps.specs.Layout.{Entry, sourceBus, sourceIrq, busSlots, pins, devices}
+use Rattle.mps.specs.Slots.{Slot, slot, namesSlot, onPci}
 use Rattle.roll.specs.Roll.{busBit, marked}
 
 -- How many slots there are, on 256 buses.
@@ -24,6 +25,13 @@ slotNumber bus irq = bus * busSlots + irq % busSlots
 unfoldable pub namedOn : List ℕ → List Entry → List ℕ
 namedOn roll es =
     each (λ (e : Entry). slotNumber (sourceBus e) (sourceIrq e)) (keep (λ (e : Entry). marked busBit roll (sourceBus e)) es)
+
+-- The slot that a number is, and whether entries name it on a PCI bus.
+abbrev pub slotOf : ℕ → Slot
+slotOf n = slot (n / busSlots) (n / pins % devices) (n % pins)
+
+unfoldable pub isNamed : List Entry → ℕ → Bool
+isNamed es n = onPci es (n / busSlots) && any (namesSlot (slotOf n)) es
 
 -- Bus, device and pin.
 unfoldable pub slotBytes : ℕ → List ℕ
