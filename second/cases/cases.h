@@ -179,7 +179,7 @@ enum { PAIRS_MAX = 63252 };   /* 251 I/O APICs x 252 interrupts */
 struct asked {
     int refusal;               /* 0, 5 to 18, or -1 where not known */
     struct builder b;
-    struct list buses;
+    struct list buses, pci;    /* all, and those that are PCI */
 
     /* The extended entries of each bus, as places from 1: its last one, and */
     uint16_t last[256];
@@ -217,6 +217,37 @@ void gen_address_query(struct rng *r, struct asked *a, struct address_query *q);
 /* Work out what is to be answered, word by word from the paper. */
 void expect_routes(struct asked *a, struct route_query *q);
 void expect_address(struct asked *a, struct address_query *q);
+
+/* The pairs that an interrupt adds to so many; answers how many there are then. */
+size_t add_pairs(struct builder *b, const uint8_t *e, uint8_t *pairs, size_t count);
+
+/* ---- questions about the PCI slots of a table ---- */
+
+enum { SLOTS_MAX = 506 };     /* no base has more entries */
+
+struct slot_query {
+    uint8_t bus, device, pin;
+    int expected;              /* in a large room: 0, 5 to 18, 24, 25, or -1 */
+    size_t count;              /* where it is 0: the pairs */
+    uint8_t pairs[2 * PAIRS_MAX];
+};
+
+/* What a listing of the slots has. */
+struct slot_list {
+    int expected;              /* in a large room: 0, 5 to 18, or -1 */
+    size_t count;              /* where it is 0: the slots */
+    uint8_t slots[3 * SLOTS_MAX];
+};
+
+/* A table of any kind, mostly one with PCI buses and many interrupts on them. */
+void gen_slotted(struct rng *r, struct test_case *c);
+
+/* A question mostly about a slot that the table names. */
+void gen_slot_query(struct rng *r, struct asked *a, struct slot_query *q);
+
+/* Work out what is to be answered, word by word from the paper. */
+void expect_slot_routes(struct asked *a, struct slot_query *q);
+void expect_slots(struct asked *a, struct slot_list *l);
 
 /* ---- buffers that state any lengths, and places in them, for entry readers ---- */
 

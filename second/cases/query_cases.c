@@ -24,6 +24,8 @@ void gen_asked(struct rng *r, struct test_case *c)
         gen_case(r, c);
 }
 
+static bool is_pci(const uint8_t *e) { return memcmp(e + 2, "PCI   ", 6) == 0; }
+
 /* The parts as the header states them, cut at the buffer's end. */
 void start_queries(struct asked *a, const struct test_case *c, bool accepted)
 {
@@ -40,6 +42,7 @@ void start_queries(struct asked *a, const struct test_case *c, bool accepted)
         memcpy(b->ext, c->bytes + base, b->ext_len);
     }
     list_of(b, 1, any, &a->buses);
+    list_of(b, 1, is_pci, &a->pci);
 
     memset(a->last, 0, sizeof a->last);
     for (uint8_t type = 128; type <= 130; type++)
@@ -70,25 +73,31 @@ static int expect_number(const struct asked *a, uint8_t bus, uint8_t number,
     return number > limit || !a->buses.has[bus] ? 24 : 0;
 }
 
+/* "In each entry every enabled I/O APIC it names, in table order; 255 names all" */
+size_t add_pairs(struct builder *b, const uint8_t *e, uint8_t *pairs, size_t count)
+{
+    uint8_t apics = e[0] == 4 ? 0 : 2;
+
+    EACH(b, apics, to) {
+        if (!(to[3] & 1) || (e[6] != 255 && e[6] != to[1]))
+            continue;
+        pairs[2 * count] = to[1];
+        pairs[2 * count++ + 1] = e[7];
+    }
+    return count;
+}
+
 void expect_routes(struct asked *a, struct route_query *q)
 {
-    uint8_t type = q->local ? 4 : 3, apics = q->local ? 0 : 2;
-    struct builder *b = &a->b;
+    uint8_t type = q->local ? 4 : 3;
 
     q->count = 0;
     q->expected = expect_number(a, q->bus, q->type, 3);
     if (q->expected != 0)
         return;
-    EACH(b, type, e) {
-        if (e[1] != q->type || e[4] != q->bus || e[5] != q->irq)
-            continue;
-        EACH(b, apics, to) {
-            if (!(to[3] & 1) || (e[6] != 255 && e[6] != to[1]))
-                continue;
-            q->pairs[2 * q->count] = to[1];
-            q->pairs[2 * q->count++ + 1] = e[7];
-        }
-    }
+    EACH(&a->b, type, e)
+        if (e[1] == q->type && e[4] == q->bus && e[5] == q->irq)
+            q->count = add_pairs(&a->b, e, q->pairs, q->count);
 }
 
 /* MPS Table 4-17, as it stands there: a digit X, then one of these. */

@@ -136,17 +136,6 @@ static void ask_all(struct rng *r, const struct test_case *c)
     }
 }
 
-/* One line of how often each of five classes was reached. */
-static void report_classes(const char *what, const char *const name[5],
-                           const number reached[5], number count)
-{
-    printf("%s:", what);
-    for (int k = 0; k < 5; k++) {
-        printf(" %s: %llu%s", name[k], reached[k], k < 4 ? "," : "\n");
-        require(what, reached[k], count / 1000);
-    }
-}
-
 static void report_asked(const struct tally *t, number count)
 {
     report_range(t->answered, 5, 18, count);

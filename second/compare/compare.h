@@ -19,7 +19,7 @@ static inline int each(void)
 
 typedef void sort_of_cases(struct rng *r, number count, const char *seed);
 
-sort_of_cases tables, dumps, parts, edits, queries, entries;
+sort_of_cases tables, dumps, parts, edits, queries, entries, slots;
 
 /* Reads one dump, and lists it into rooms of several sizes. */
 void list_dump(struct rng *r, const struct dump_case *d);
@@ -42,5 +42,19 @@ void route_in_every_room(const struct route_query *q, size_t most);
 
 /* The bench board, addresses of both lists, long climbs, and others. */
 void fixed_queries(struct rng *r);
+
+/* A table; the questions that follow are about its slots, or others about it. */
+struct asked *slot_table(const struct test_case *c);
+
+/* Where a slot goes, and which slots there are, in rooms of several sizes. */
+void ask_slot(struct rng *r, const struct slot_query *q);
+void ask_slots(struct rng *r, const struct slot_list *l);
+
+/* The same in every room from 0 bytes, or from so many, to so many. */
+void slot_in_every_room(const struct slot_query *q, size_t most);
+void slots_in_every_room(const struct slot_list *l, size_t least, size_t most);
+
+/* The bench board, bit 7, buses of every name, full tables, and others. */
+void fixed_slots(struct rng *r);
 
 #endif

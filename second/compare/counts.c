@@ -146,6 +146,16 @@ void report_range(const number *answered, int low, int high, number count)
         report(k, answered[k], count);
 }
 
+void report_classes(const char *what, const char *const name[5],
+                    const number reached[5], number count)
+{
+    printf("%s:", what);
+    for (int k = 0; k < 5; k++) {
+        printf(" %s: %llu%s", name[k], reached[k], k < 4 ? "," : "\n");
+        require(what, reached[k], count / 1000);
+    }
+}
+
 static void report_features(number count)
 {
     printf("tables %s: %llu; with", named[SOUND], noted[SOUND]);
@@ -165,7 +175,8 @@ bool report_calls(number count, const char *seed)
     report_features(count);
     printf("calls by the number they ended with:\n");
     for (int k = 0; k < NUMBERS_END; k++) {
-        printf("%4d: %-8llu%s", k, ended[k], k % 5 == 4 ? "\n" : "");
+        printf("%4d: %-8llu%s", k, ended[k],
+               k % 5 == 4 || k + 1 == NUMBERS_END ? "\n" : "");
         calls += ended[k];
     }
     for (int k = 1; k < NUMBERS_END; k++) {

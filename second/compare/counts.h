@@ -8,7 +8,7 @@
 
 typedef unsigned long long number;
 
-enum { NUMBERS_END = 25, AT_LEAST = 50, CALLS_AT_LEAST = 50000 };
+enum { NUMBERS_END = 26, AT_LEAST = 50, CALLS_AT_LEAST = 50000 };
 
 /* How the cases of one sort ended, by the number of the refusal or 0. */
 struct tally {
@@ -32,6 +32,10 @@ void require(const char *what, number reached, number least);
 /* A line each: how often a number was reached, of so many generated cases. */
 void report(int answer, number reached, number count);
 void report_range(const number *answered, int low, int high, number count);
+
+/* One line of how often each of five classes was reached. */
+void report_classes(const char *what, const char *const name[5],
+                    const number reached[5], number count);
 
 /*
  * The end of the report, of so many generated cases of each sort; false where

@@ -70,6 +70,13 @@ void our_call(const struct request *q, struct reply *a)
         give(a, ruxtajma_local_routes(LENT(q, 0), BYTE(0), BYTE(1), BYTE(2),
                                       LENT(q, ROOM)));
         break;
+    case 'R':
+        give(a, ruxtajma_slot_routes(LENT(q, 0), BYTE(0), BYTE(1), BYTE(2),
+                                     LENT(q, ROOM)));
+        break;
+    case 'S':
+        give(a, ruxtajma_slots(LENT(q, 0), LENT(q, ROOM)));
+        break;
     case 'A':
         give(a, ruxtajma_address(LENT(q, 0), BYTE(0), BYTE(1), q->number[2]));
         break;

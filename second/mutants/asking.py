@@ -1,4 +1,4 @@
-"""Mistakes to put into query.c; see run.
+"""Mistakes to put into query.c and slots.c; see run.
 Rule, what is wrong, old text (must occur once), new text."""
 
 ROUTE_TEST = "    if (from->type > 3 || !listed(&t, from->bus))\n        return refused(24);\n"
@@ -7,12 +7,29 @@ TOO_SMALL = "    if (count > size / 2)\n        return refused(19);\n"
 TAKEN = "        if (in(&c->taken, bus))\n            return answer(NO, links);\n"
 HELD = "        if (in(&c->held, bus))\n            return answer(YES, links);\n"
 NOT_UP = "        if (!in(&c->subtractive, bus))\n            return answer(in(&c->declared, bus) ? NO : UNDECLARED, links);\n"
-WRITE = "    if (count > 0)\n        put_pairs(&t, side, from, &to, room);\n    return counted(count);\n"
+WRITE = "    if (count > 0)\n        put_pairs(t, side, from, &to, room);\n    return counted(count);\n"
+ANSWER = "    return counted(count);\n}\n\nstatic uint64_t routes("
+ROUTED = "    return routes_of(&t, side, from, room, size);\n"
 TO_ALL = "            p = put_to_all(p, to, e[7]);\n"
 ON_LIST = "    bool touched = q->kind == 0 && q->address < 65536;\n"
 COVERS = "e[3] == q->kind && q->address - get64(e + 4) < get64(e + 12)"
-JUDGED = "    if ((refusal = plain_judge_walk(bytes, n, &t)) != 0)\n        return refused(refusal);\n"
+JUDGED = "    /* \"Queries test the table, then 24, then 19\" */\n    if ((refusal = plain_judge_walk(bytes, n, &t)) != 0)\n        return refused(refusal);\n"
 JUDGED_ADDRESS = "    if ((refusal = plain_judge_walk(bytes, n, &t)) != 0)\n        return refusal;\n"
+
+SLOT_JUDGED = "    /* \"25 ..., after 24 and before 19\" */\n    if ((refusal = plain_judge_walk(bytes, n, &t)) != 0)\n        return refused(refusal);\n"
+SLOT_LISTED = "    if (entry == NULL)\n        return refused(24);\n"
+SLOT_TEST = "    if (!is_pci(entry) || device > 31 || pin > 3)\n        return refused(25);\n"
+SLOT_FROM = "    struct source from = { INT, bus, (uint8_t)(device << 2 | pin), 127 };\n"
+SLOT_ROUTED = "    return routes_of(&t, &io_side, &from, room, size);\n"
+
+# Of slots.c.
+MARK = "    s->on[e[4]].word[turn][e[5] >> 6 & 1] |= (uint64_t)1 << (e[5] & 63);\n"
+PUT_HALVES = "        p = put_half(p, s, bus, 0);\n        p = put_half(p, s, bus, 1);\n"
+SLOTS_JUDGED = "    if ((refusal = plain_judge_walk(bytes, n, &t)) != 0)\n        return refused(refusal);\n"
+COUNTED_SLOTS = "(most = count_slots(&s)) > size / 3"
+SLOTS_TEST = "    if (most > size / 3 && (most = count_slots(&s)) > size / 3)\n        return refused(19);\n"
+PUT_ALL = "    return counted(most == 0 ? 0 : put_slots(&s, room));\n"
+PAST = "    most = most == 0 ? 0 : put_slots(&s, room);\n{}    return counted(most);\n"
 
 QUERY = [
  (24, "a bus is listed whose ID is below the count", "        if (t->bytes[at + 1] == bus)\n", "        if (bus < (t->base[BUS + 1] - t->base[BUS]) / 8)\n"),
@@ -68,9 +85,10 @@ QUERY = [
  (0, "fours of three", "0, 1, 0, 1 };", "0, 1, 0, 0 };"),
  (0, "type not compared", "return e[1] == from->type && ", "return "),
  (0, "bus not compared", " && e[4] == from->bus", ""),
- (0, "IRQ not compared", " && e[5] == from->irq", ""),
+ (0, "IRQ not compared", "\n        && (e[5] & from->bits) == from->irq", ""),
  (0, "type in its low bit", "e[1] == from->type", "(e[1] & 1) == (from->type & 1)"),
- (0, "IRQ in five bits", "e[5] == from->irq", "(e[5] & 31) == (from->irq & 31)"),
+ (0, "IRQ in five bits", "(e[5] & from->bits) == from->irq", "(e[5] & 31) == (from->irq & 31)"),
+ (0, "routes ignore bit 7 too", "{ type, bus, irq, 255 };\n\n    return routes(t, n, &io_side", "{ type, bus, irq & 127, 127 };\n\n    return routes(t, n, &io_side"),
  (0, "flags must be 0", "return e[1] == from->type && ", "return e[2] == 0 && e[1] == from->type && "),
  (0, "first match only, counted", "            count += e[6] == ALL ? to->n : in(&to->set, e[6]);\n", "            count = count != 0 ? count : e[6] == ALL ? to->n : in(&to->set, e[6]);\n"),
  (0, "two equal entries once", "        if (comes_from(e, from))\n", "        if (comes_from(e, from) && !(at > t->base[side->interrupts] && get64(e - 8) == get64(e)))\n"),
@@ -80,19 +98,19 @@ QUERY = [
  (0, "I/O asks processors", "io_side = { IO_INT, IO_APIC, 8 }", "io_side = { IO_INT, PROCESSOR, 20 }"),
  (0, "I/O asks local interrupts", "io_side = { IO_INT, IO_APIC, 8 }", "io_side = { LOCAL_INT, IO_APIC, 8 }"),
  (0, "processors of 8 bytes", "local_side = { LOCAL_INT, PROCESSOR, 20 }", "local_side = { LOCAL_INT, PROCESSOR, 8 }"),
- (0, "answers bytes, not pairs", "    return counted(count);\n}\n\nuint64_t plain_io_routes", "    return counted(2 * count);\n}\n\nuint64_t plain_io_routes"),
- (0, "count in one byte, answered", "    return counted(count);\n}\n\nuint64_t plain_io_routes", "    return counted((uint8_t)count);\n}\n\nuint64_t plain_io_routes"),
- (0, "pairs answered in 16 bits", "    return counted(count);\n}\n\nuint64_t plain_io_routes", "    return counted((uint16_t)count);\n}\n\nuint64_t plain_io_routes"),
+ (0, "answers bytes, not pairs", ANSWER, ANSWER.replace("(count)", "(2 * count)")),
+ (0, "count in one byte, answered", ANSWER, ANSWER.replace("(count)", "((uint8_t)count)")),
+ (0, "pairs answered in 16 bits", ANSWER, ANSWER.replace("(count)", "((uint16_t)count)")),
  (0, "writes nothing", WRITE, "    return counted(count);\n"),
  (0, "a byte past the pairs", WRITE, WRITE.replace("    return", "    if (size > 2 * count)\n        room[2 * count] ^= 1;\n    return")),
  (0, "clears what lies past", WRITE, WRITE.replace("    return", "    for (size_t i = 2 * count; i < size; i++)\n        room[i] = 0;\n    return")),
  (0, "writes before the room", WRITE, WRITE.replace("    return", "    room[-1] ^= 1;\n    return")),
  (0, "the same route always", WRITE, "    if (count == 1) {\n        put_pair(room, 2, 1);\n        return counted(count);\n    }\n" + WRITE),
- (0, "route of a refused table", JUDGED, "    if ((refusal = plain_judge_walk(bytes, n, &t)) != 0 && refusal < 18)\n        return refused(refusal);\n"),
+ (0, "route of a refused table", JUDGED, JUDGED.replace("!= 0)", "!= 0 && refusal < 18)")),
  (0, "route number in the upper half", JUDGED, JUDGED.replace("refused(refusal)", "(uint64_t)refusal << 32")),
- (0, "route: changes the table", WRITE, "    ((uint8_t *)bytes)[n - 1] ^= 1;\n" + WRITE),
- (0, "route: reads behind the table", WRITE, "    if (*(volatile const uint8_t *)(bytes + n) == 1)\n        count = count + 0;\n" + WRITE),
- (0, "route: reads before the table", WRITE, "    if (*(volatile const uint8_t *)(bytes - 1) == 1)\n        count = count + 0;\n" + WRITE),
+ (0, "route: changes the table", ROUTED, "    ((uint8_t *)bytes)[n - 1] ^= 1;\n" + ROUTED),
+ (0, "route: reads behind the table", ROUTED, "    if (*(volatile const uint8_t *)(bytes + n) == 1)\n        size = size + 0;\n" + ROUTED),
+ (0, "route: reads before the table", ROUTED, "    if (*(volatile const uint8_t *)(bytes - 1) == 1)\n        size = size + 0;\n" + ROUTED),
  (0, "another kind covers", COVERS, "q->address - get64(e + 4) < get64(e + 12)"),
  (0, "memory covers prefetch", "e[3] == q->kind &&", "(e[3] == q->kind || e[3] + 1 == q->kind) &&"),
  (0, "one past the end covered", "< get64(e + 12))", "<= get64(e + 12))"),
@@ -172,6 +190,119 @@ QUERY = [
  (0, "address: number in the upper half", JUDGED_ADDRESS, JUDGED_ADDRESS.replace("return refusal", "return (uint32_t)refusal << 16")),
  (0, "address: changes the table", ADDRESS_TEST, ADDRESS_TEST + "    ((uint8_t *)bytes)[n - 1] ^= 1;\n"),
  (0, "address: reads behind the table", ADDRESS_TEST, ADDRESS_TEST + "    if (*(volatile const uint8_t *)(bytes + n) == 1)\n        bus = bus + 0;\n"),
+ (24, "slot: an unlisted bus is 25", SLOT_LISTED, SLOT_LISTED.replace("24", "25")),
+ (24, "slot: an unlisted bus goes nowhere", SLOT_LISTED, SLOT_LISTED.replace("refused(24)", "counted(0)")),
+ (24, "slot: after 25", "    /* 24: \"bus not listed\" */\n", "    if (device > 31 || pin > 3)\n        return refused(25);\n"),
+ (24, "slot: before the table", SLOT_JUDGED, "    if (n < HEADER_SIZE)\n        return refused(24);\n" + SLOT_JUDGED),
+ (25, "before the table", SLOT_JUDGED, "    if (device > 31 || pin > 3)\n        return refused(25);\n" + SLOT_JUDGED),
+ (25, "after 19", SLOT_TEST, "    if (size == 0)\n        return refused(19);\n" + SLOT_TEST),
+ (25, "no test", SLOT_TEST, ""),
+ (25, "bus of any name", "!is_pci(entry) || ", ""),
+ (25, "PCMCIA is PCI too", "!is_pci(entry)", "memcmp(entry + 2, \"PC\", 2) != 0"),
+ (25, "EISA is PCI too", "!is_pci(entry)", "!(is_pci(entry) || memcmp(entry + 2, \"EISA\", 4) == 0)"),
+ (25, "the first bus decides", "!is_pci(entry)", "!is_pci(t.bytes + t.base[BUS])"),
+ (25, "the name behind decides", "!is_pci(entry)", "!is_pci(entry + 8 < t.bytes + t.base[BUS + 1] ? entry + 8 : entry)"),
+ (25, "device free", "device > 31 || ", ""),
+ (25, "device 32 allowed", "device > 31", "device > 32"),
+ (25, "device 31 refused", "device > 31", "device > 30"),
+ (25, "device with a sign", "device > 31", "(int8_t)device > 31"),
+ (25, "device in six bits", "device > 31", "(device & 63) > 31"),
+ (25, "pin free", " || pin > 3)", ")"),
+ (25, "pin 4 allowed", "pin > 3", "pin > 4"),
+ (25, "pin 3 refused", "pin > 3", "pin > 2"),
+ (25, "pin with a sign", "pin > 3", "(int8_t)pin > 3"),
+ (25, "pin and device at once only", "device > 31 || pin > 3", "(device > 31 && pin > 3)"),
+ (25, "24 for it", SLOT_TEST, SLOT_TEST.replace("25", "24")),
+ (25, "an answer without pairs for it", SLOT_TEST, SLOT_TEST.replace("refused(25)", "counted(0)")),
+ (25, "with a value", SLOT_TEST, SLOT_TEST.replace("refused(25)", "refused(25) | counted(1)")),
+ (25, "where nothing is routed", SLOT_ROUTED, "    uint64_t a = routes_of(&t, &io_side, &from, room, size);\n    return a == 0 ? refused(25) : a;\n"),
+ (0, "slot: bit 7 compared", SLOT_FROM, SLOT_FROM.replace("127", "255")),
+ (0, "slot: bit 7 must be set", SLOT_FROM, SLOT_FROM.replace("device << 2 | pin)", "128 | device << 2 | pin)").replace("127", "255")),
+ (0, "slot: six bits compared", SLOT_FROM, SLOT_FROM.replace("device << 2 | pin)", "(device << 2 | pin) & 63)").replace("127", "63")),
+ (0, "slot: the device alone compared", SLOT_FROM, SLOT_FROM.replace("device << 2 | pin)", "device << 2)").replace("127", "124")),
+ (0, "slot: pin above the device", SLOT_FROM, SLOT_FROM.replace("device << 2 | pin", "pin << 5 | device")),
+ (0, "slot: pin from 1", SLOT_FROM, SLOT_FROM.replace("| pin)", "| ((pin + 3) & 3))")),
+ (0, "slot: NMI for INT", SLOT_FROM, SLOT_FROM.replace("{ INT,", "{ 1,")),
+ (0, "slot: ExtINT for INT", SLOT_FROM, SLOT_FROM.replace("{ INT,", "{ 3,")),
+ (0, "slot: bus 0", SLOT_FROM, SLOT_FROM.replace("bus,", "0,")),
+ (0, "slot: local interrupts", SLOT_ROUTED, SLOT_ROUTED.replace("io_side", "local_side")),
+ (0, "slot: pairs without bit 7 first", SLOT_ROUTED, "    from.bits = 255;\n    uint64_t a = routes_of(&t, &io_side, &from, room, size);\n    if ((a & 255) != 0)\n        return a;\n    from.irq |= 128;\n    uint64_t b = routes_of(&t, &io_side, &from, room + 2 * (a >> 16), size - 2 * (a >> 16));\n    return (b & 255) != 0 ? b : a + b;\n"),
+ (0, "slot of a refused table", SLOT_JUDGED, SLOT_JUDGED.replace("!= 0)", "!= 0 && refusal < 18)")),
+ (0, "slot: number in the upper half", SLOT_JUDGED, SLOT_JUDGED.replace("refused(refusal)", "(uint64_t)refusal << 32")),
+ (0, "slot: changes the table", SLOT_FROM, "    ((uint8_t *)bytes)[n - 1] ^= 1;\n" + SLOT_FROM),
+ (0, "slot: reads behind the table", SLOT_FROM, "    if (*(volatile const uint8_t *)(bytes + n) == 1)\n        size = size + 0;\n" + SLOT_FROM),
+]
+
+SLOTS = [
+ (19, "exact room refused", COUNTED_SLOTS, COUNTED_SLOTS.replace("> size", ">= size")),
+ (19, "two bytes taken for a slot", COUNTED_SLOTS, COUNTED_SLOTS.replace("size / 3", "(size + 1) / 3")),
+ (19, "one byte taken for a slot", COUNTED_SLOTS, COUNTED_SLOTS.replace("size / 3", "(size + 2) / 3")),
+ (19, "room counts slots", COUNTED_SLOTS, COUNTED_SLOTS.replace("size / 3", "size")),
+ (19, "room counts pairs", COUNTED_SLOTS, COUNTED_SLOTS.replace("size / 3", "size / 2")),
+ (19, "one slot more allowed", COUNTED_SLOTS, COUNTED_SLOTS.replace("size / 3", "size / 3 + 1")),
+ (19, "no test", SLOTS_TEST, ""),
+ (19, "interrupts counted", "most > size / 3 && " + COUNTED_SLOTS, "most > size / 3"),
+ (19, "interrupts in 8 bits", "most > size / 3 &&", "(uint8_t)most > size / 3 &&"),
+ (19, "slots in 8 bits", COUNTED_SLOTS, COUNTED_SLOTS.replace("(most = count_slots(&s))", "(uint8_t)(most = count_slots(&s))")),
+ (19, "empty room refused", SLOTS_TEST, "    if (size == 0)\n        return refused(19);\n" + SLOTS_TEST),
+ (19, "count given too", SLOTS_TEST, SLOTS_TEST.replace("refused(19)", "refused(19) | counted(most)")),
+ (19, "first slot written", SLOTS_TEST, SLOTS_TEST.replace("        return refused(19);\n", "    {\n        if (size > 0)\n            room[0] ^= 1;\n        return refused(19);\n    }\n")),
+ (19, "room cleared", SLOTS_TEST, SLOTS_TEST.replace("        return refused(19);\n", "    {\n        while (size-- > 0)\n            room[size] = 0;\n        return refused(19);\n    }\n")),
+ (19, "upper half not counted", " + bits_in(half(s, bus, 1))", ""),
+ (19, "lower half not counted", "bits_in(half(s, bus, 0)) + ", ""),
+ (19, "at most one of two counted", "word -= word >> 1 & UINT64_C(0x5555555555555555);", "word = (word | word >> 1) & UINT64_C(0x5555555555555555);"),
+ (19, "64 of a half counted as 0", "return (unsigned)(word * UINT64_C(0x0101010101010101) >> 56);", "return (unsigned)(word * UINT64_C(0x0101010101010101) >> 56) & 63;"),
+ (0, "buses of any name", "(uint64_t)is_pci(e) <<", "(uint64_t)1 <<"),
+ (0, "PCMCIA too", "(uint64_t)is_pci(e) <<", "(uint64_t)(e[2] == 'P' && e[3] == 'C') <<"),
+ (0, "EISA and ISA too", "(uint64_t)is_pci(e) <<", "(uint64_t)(is_pci(e) || e[4] == 'A' || e[5] == 'A') <<"),
+ (0, "no PCI bus", "(uint64_t)is_pci(e) <<", "(uint64_t)0 <<"),
+ (0, "last bus left out", "        s->pci.word[e[1] >> 6] |=", "        if (at + 8 < t->base[BUS + 1])\n            s->pci.word[e[1] >> 6] |="),
+ (0, "first bus left out", "        s->pci.word[e[1] >> 6] |=", "        if (at > t->base[BUS])\n            s->pci.word[e[1] >> 6] |="),
+ (0, "bus 255 left out", "        s->pci.word[e[1] >> 6] |=", "        if (e[1] != 255)\n            s->pci.word[e[1] >> 6] |="),
+ (0, "bus 0 left out", "        s->pci.word[e[1] >> 6] |=", "        if (e[1] != 0)\n            s->pci.word[e[1] >> 6] |="),
+ (0, "buses below 128", "i < 4; i++)", "i < 2; i++)"),
+ (0, "INT alone", MARK, "    if (e[1] != INT)\n        return;\n" + MARK),
+ (0, "ExtINT left out", MARK, "    if (e[1] == 3)\n        return;\n" + MARK),
+ (0, "destination 255 left out", MARK, "    if (e[6] == ALL)\n        return;\n" + MARK),
+ (0, "bit 7 set left out", MARK, "    if (e[5] > 127)\n        return;\n" + MARK),
+ (0, "bit 7 for bit 6", "e[5] >> 6 & 1", "e[5] >> 7"),
+ (0, "six bits of the IRQ", "[turn][e[5] >> 6 & 1]", "[turn][0]"),
+ (0, "the slot of the input", MARK, MARK.replace("e[5]", "e[7]")),
+ (0, "polarity or trigger given left out", MARK, "    if (e[2] != 0)\n        return;\n" + MARK),
+ (0, "local interrupts too", "t->base[IO_INT + 1];", "t->base[LOCAL_INT + 1];"),
+ (0, "local interrupts alone", "    const uint8_t *e = t->bytes + t->base[IO_INT];\n    const uint8_t *end = t->bytes + t->base[IO_INT + 1];\n", "    const uint8_t *e = t->bytes + t->base[LOCAL_INT];\n    const uint8_t *end = t->bytes + t->base[LOCAL_INT + 1];\n"),
+ (0, "every other left out", "        mark(s, e + 8, 1);\n", ""),
+ (0, "last of an odd number left out", "    if (e < end)\n        mark(s, e, 0);\n", ""),
+ (0, "last of an even number left out", "end - e >= 16;", "end - e > 16;"),
+ (0, "second set not read", " | s->on[bus].word[1][upper]", ""),
+ (0, "in both sets only", "word[0][upper] | s->on", "word[0][upper] & s->on"),
+ (0, "marks of the table before", "    gather_buses(&t, &s);\n", "    static struct slots before;\n    gather_buses(&t, &s);\n    s.on[t.bytes[t.base[BUS] + 1]] = before;\n    before.word[0][0] = 1;\n"),
+ (0, "upper half as the lower", " + 64 * (unsigned)upper", ""),
+ (0, "upper half first", PUT_HALVES, "        p = put_half(p, s, bus, 1);\n        p = put_half(p, s, bus, 0);\n"),
+ (0, "upper half left out", "        p = put_half(p, s, bus, 1);\n", ""),
+ (0, "buses from 192 on first", "i = 0; i < 4; i++)", "k = 0, i = 3; k < 4; k++, i = 3 - k)"),
+ (0, "first slot of a bus alone", "left != 0; left &= left - 1) {", "left != 0; left = 0) {"),
+ (0, "pin before device", "        p[1] = (uint8_t)(slot >> 2);\n        p[2] = slot & 3;\n", "        p[2] = (uint8_t)(slot >> 2);\n        p[1] = slot & 3;\n"),
+ (0, "bus last", "        p[0] = (uint8_t)bus;\n        p[1] = (uint8_t)(slot >> 2);\n        p[2] = slot & 3;\n", "        p[2] = (uint8_t)bus;\n        p[0] = (uint8_t)(slot >> 2);\n        p[1] = slot & 3;\n"),
+ (0, "the IRQ for the device", "(uint8_t)(slot >> 2)", "(uint8_t)slot"),
+ (0, "device in four bits", "(uint8_t)(slot >> 2)", "slot >> 2 & 15"),
+ (0, "device in the low bits", "        p[1] = (uint8_t)(slot >> 2);\n        p[2] = slot & 3;\n", "        p[1] = slot & 31;\n        p[2] = slot >> 5 & 3;\n"),
+ (0, "pin from 1", "p[2] = slot & 3;", "p[2] = (slot & 3) + 1;"),
+ (0, "pin in one bit", "p[2] = slot & 3;", "p[2] = slot & 1;"),
+ (0, "answers bytes, not slots", "return (size_t)(p - room) / 3;", "return (size_t)(p - room);"),
+ (0, "count in one byte", "return (size_t)(p - room) / 3;", "return (uint8_t)((p - room) / 3);"),
+ (0, "answers interrupts", PUT_ALL, "    size_t interrupts = (t.base[IO_INT + 1] - t.base[IO_INT]) / 8;\n    if (interrupts > 0)\n        put_slots(&s, room);\n    return counted(interrupts);\n"),
+ (0, "writes nothing", PUT_ALL, "    return counted(count_slots(&s));\n"),
+ (0, "a byte past the slots", PUT_ALL, PAST.format("    if (size > 3 * most)\n        room[3 * most] ^= 1;\n")),
+ (0, "clears what lies past", PUT_ALL, PAST.format("    for (size_t i = 3 * most; i < size; i++)\n        room[i] = 0;\n")),
+ (0, "writes before the room", PUT_ALL, PAST.format("    room[-1] ^= 1;\n")),
+ (0, "the same listing always", PUT_ALL, PAST.format("    if (most == 1)\n        room[0] = room[1] = 0, room[2] = 1;\n")),
+ (0, "slots of a refused table", SLOTS_JUDGED, SLOTS_JUDGED.replace("!= 0)", "!= 0 && refusal < 18)")),
+ (0, "number in the upper half", SLOTS_JUDGED, SLOTS_JUDGED.replace("refused(refusal)", "(uint64_t)refusal << 32")),
+ (0, "25 for a table without PCI", PUT_ALL, "    if (count_slots(&s) == 0)\n        return refused(25);\n" + PUT_ALL),
+ (0, "changes the table", PUT_ALL, "    ((uint8_t *)bytes)[n - 1] ^= 1;\n" + PUT_ALL),
+ (0, "reads behind the table", PUT_ALL, "    if (*(volatile const uint8_t *)(bytes + n) == 1)\n        size = size + 0;\n" + PUT_ALL),
+ (0, "reads before the table", PUT_ALL, "    if (*(volatile const uint8_t *)(bytes - 1) == 1)\n        size = size + 0;\n" + PUT_ALL),
 ]
 
 # Equal to the original: a base of 4,096 bytes has at most 63,252 pairs (251 I/O

@@ -109,11 +109,13 @@ ANSWERS = [
  (0, "no value", "    write_number(a->count, 1);\n", "    ((struct reply *)a)->count *= count != 60000;\n    write_number(a->count, 1);\n"),
  (0, "200 values", "    write_number(a->count, 1);\n", "    write_number(count == 60000 ? 200 : a->count, 1);\n"),
  (0, "a value with bit 60", "        write_number(a->value[i], 8);\n", "        write_number(a->value[i] | (uint64_t)(count == 60000) << 60, 8);\n"),
- (0, "number 25", "        write_number(a->value[i], 8);\n", "        write_number(count == 60000 ? 25 : a->value[i], 8);\n"),
+ (0, "number 26", "        write_number(a->value[i], 8);\n", "        write_number(count == 60000 ? 26 : a->value[i], 8);\n"),
  (0, "the second slice in the first's place", "        q.slice[i].bytes = between + used;\n", "        q.slice[i].bytes = between;\n"),
  (0, "slices over 131,072 refused", "q.slice[0].length > SLICE_MAX ||", "q.slice[0].length > 131072 ||"),
  (0, "middle slices over 131,072 refused", "> SLICE_MAX - used)", "> 131072)"),
 ]
+
+SLOT_NUMBERS = "plain_slot_routes(LENT(q, 0), (uint8_t)q->number[0],\n                              (uint8_t)q->number[1], (uint8_t)q->number[2],"
 
 CALLS = [
  (0, "judge: another slice", "give(a, plain_judge(LENT(q, 0)));", "give(a, plain_judge(LENT(q, 1)));"),
@@ -136,6 +138,11 @@ CALLS = [
  (0, "byte 43 in the local APIC's place", "= (uint32_t)q->number[2]", "= (uint32_t)q->number[3]"),
  (0, "I/O for local routes", "plain_local_routes(LENT", "plain_io_routes(LENT"),
  (0, "kinds I and C exchanged", "['I'] = io_routes,\n    ['C'] = local_routes", "['C'] = io_routes,\n    ['I'] = local_routes"),
+ (0, "kinds R and S exchanged", "['R'] = slot_routes, ['S'] = slots", "['S'] = slot_routes, ['R'] = slots"),
+ (0, "routes for slot routes", "plain_slot_routes(LENT", "plain_io_routes(LENT"),
+ (0, "device and pin exchanged", SLOT_NUMBERS, SLOT_NUMBERS.replace("[1]", "[3]").replace("[2]", "[1]").replace("[3]", "[2]")),
+ (0, "device in five bits", SLOT_NUMBERS, SLOT_NUMBERS.replace("[1]", "[1] & 31")),
+ (0, "slots into another slice", "plain_slots(LENT(q, 0), LENT(q, ROOM))", "plain_slots(LENT(q, 0), LENT(q, 3))"),
  (0, "place in 32 bits", "plain_entry(LENT(q, 0), q->number[0])", "plain_entry(LENT(q, 0), (uint32_t)q->number[0])"),
  (0, "address in 32 bits", "(uint8_t)q->number[1], q->number[2])", "(uint8_t)q->number[1], (uint32_t)q->number[2])"),
  (0, "names not filled up with 0", "    memset(field, 0, size);\n", "    memset(field, ' ', size);\n"),

@@ -81,6 +81,18 @@ static void local_routes(const struct request *q, struct reply *a)
                                LENT(q, ROOM)));
 }
 
+static void slot_routes(const struct request *q, struct reply *a)
+{
+    give(a, plain_slot_routes(LENT(q, 0), (uint8_t)q->number[0],
+                              (uint8_t)q->number[1], (uint8_t)q->number[2],
+                              LENT(q, ROOM)));
+}
+
+static void slots(const struct request *q, struct reply *a)
+{
+    give(a, plain_slots(LENT(q, 0), LENT(q, ROOM)));
+}
+
 static void address(const struct request *q, struct reply *a)
 {
     give(a, plain_address(LENT(q, 0), (uint8_t)q->number[0],
@@ -90,7 +102,7 @@ static void address(const struct request *q, struct reply *a)
 static plain_call *const calls[256] = {
     ['J'] = judge, ['D'] = read_dump, ['L'] = list, ['W'] = write_table,
     ['T'] = take_apart, ['E'] = edit, ['P'] = entry, ['I'] = io_routes,
-    ['C'] = local_routes, ['A'] = address,
+    ['C'] = local_routes, ['R'] = slot_routes, ['S'] = slots, ['A'] = address,
 };
 
 plain_call *plain_call_of(uint8_t kind)

@@ -134,7 +134,7 @@ uint64_t plain_edit(uint8_t *t, size_t n, size_t place,
                     const uint8_t *stated, size_t stated_length,
                     const uint8_t *wanted, size_t wanted_length);
 
-/* ---- asking a table: 5 to 18, 24 and 19 ---- */
+/* ---- asking a table: 5 to 18, 24, 25 and 19 ---- */
 
 /*
  * Where interrupts of a type from a bus and IRQ go, by the table at the start
@@ -149,6 +149,23 @@ uint64_t plain_io_routes(const uint8_t *t, size_t n, uint8_t type, uint8_t bus,
                          uint8_t irq, uint8_t *room, size_t size);
 uint64_t plain_local_routes(const uint8_t *t, size_t n, uint8_t type, uint8_t bus,
                             uint8_t irq, uint8_t *room, size_t size);
+
+/*
+ * The same of a PCI slot: a bus, a device 0 to 31 and a pin 0 to 3 (INTA# to
+ * INTD#).  The entries are the I/O interrupts of type INT whose source IRQ has the
+ * pin in bits 0 and 1 and the device in bits 2 to 6; bit 7 decides nothing.
+ */
+uint64_t plain_slot_routes(const uint8_t *t, size_t n, uint8_t bus, uint8_t device,
+                           uint8_t pin, uint8_t *room, size_t size);
+
+/*
+ * The slots that I/O interrupts of any type name on PCI buses.  Writes each once,
+ * rising, as bus, device and pin, a byte each, from the room's first byte.  Answers
+ * how many it wrote, from bit 16 on, or the refusal number, 5 to 18 or 19; then
+ * nothing was written.  What lies past them stays.  Table and room may not overlap;
+ * each may be NULL if its length is 0.
+ */
+uint64_t plain_slots(const uint8_t *t, size_t n, uint8_t *room, size_t size);
 
 /*
  * Whether an address of a kind (0 I/O, 1 memory, 2 prefetch) is one of a bus.

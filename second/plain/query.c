@@ -1,19 +1,26 @@
 /*
- * The plain queries: where an interrupt goes, and whether an address is one of
- * a bus.  Both judge the table first; what they ask of it then is one pass over
- * the entries concerned, and for routes one more that writes.
+ * The plain queries: where an interrupt goes, given its source or a PCI slot, and
+ * whether an address is one of a bus.  All judge the table first; what they ask of
+ * it then is one pass over the entries concerned, and for routes one more that
+ * writes.
  */
 #include "plain.h"
 #include "set.h"
 
 #include <string.h>
 
-static bool listed(const struct table *t, uint8_t bus)
+/* The entry of a bus; NULL where it is not listed. */
+static const uint8_t *entry_of(const struct table *t, uint8_t bus)
 {
     for (size_t at = t->base[BUS]; at < t->base[BUS + 1]; at += 8)
         if (t->bytes[at + 1] == bus)
-            return true;
-    return false;
+            return t->bytes + at;
+    return NULL;
+}
+
+static bool listed(const struct table *t, uint8_t bus)
+{
+    return entry_of(t, bus) != NULL;
 }
 
 /* ---- routes ---- */
@@ -30,6 +37,7 @@ static const struct side local_side = { LOCAL_INT, PROCESSOR, 20 };
 
 struct source {
     uint8_t type, bus, irq;
+    uint8_t bits;             /* of the IRQ that count */
 };
 
 /*
@@ -69,7 +77,8 @@ static void gather_targets(const struct table *t, const struct side *side,
 
 static bool comes_from(const uint8_t *e, const struct source *from)
 {
-    return e[1] == from->type && e[4] == from->bus && e[5] == from->irq;
+    return e[1] == from->type && e[4] == from->bus
+        && (e[5] & from->bits) == from->irq;
 }
 
 static size_t count_pairs(const struct table *t, const struct side *side,
@@ -127,11 +136,26 @@ static void put_pairs(const struct table *t, const struct side *side,
     }
 }
 
+static uint64_t routes_of(const struct table *t, const struct side *side,
+                          const struct source *from, uint8_t *room, size_t size)
+{
+    struct targets to;
+
+    /* 19: "answer longer than the lent room" */
+    gather_targets(t, side, &to);
+    size_t count = count_pairs(t, side, from, &to);
+    if (count > size / 2)
+        return refused(19);
+
+    if (count > 0)
+        put_pairs(t, side, from, &to, room);
+    return counted(count);
+}
+
 static uint64_t routes(const uint8_t *bytes, size_t n, const struct side *side,
                        const struct source *from, uint8_t *room, size_t size)
 {
     struct table t;
-    struct targets to;
     uint8_t refusal;
 
     /* "Queries test the table, then 24, then 19" */
@@ -142,21 +166,13 @@ static uint64_t routes(const uint8_t *bytes, size_t n, const struct side *side,
     if (from->type > 3 || !listed(&t, from->bus))
         return refused(24);
 
-    /* 19: "answer longer than the lent room" */
-    gather_targets(&t, side, &to);
-    size_t count = count_pairs(&t, side, from, &to);
-    if (count > size / 2)
-        return refused(19);
-
-    if (count > 0)
-        put_pairs(&t, side, from, &to, room);
-    return counted(count);
+    return routes_of(&t, side, from, room, size);
 }
 
 uint64_t plain_io_routes(const uint8_t *t, size_t n, uint8_t type, uint8_t bus,
                          uint8_t irq, uint8_t *room, size_t size)
 {
-    struct source from = { type, bus, irq };
+    struct source from = { type, bus, irq, 255 };
 
     return routes(t, n, &io_side, &from, room, size);
 }
@@ -164,9 +180,33 @@ uint64_t plain_io_routes(const uint8_t *t, size_t n, uint8_t type, uint8_t bus,
 uint64_t plain_local_routes(const uint8_t *t, size_t n, uint8_t type, uint8_t bus,
                             uint8_t irq, uint8_t *room, size_t size)
 {
-    struct source from = { type, bus, irq };
+    struct source from = { type, bus, irq, 255 };
 
     return routes(t, n, &local_side, &from, room, size);
+}
+
+uint64_t plain_slot_routes(const uint8_t *bytes, size_t n, uint8_t bus,
+                           uint8_t device, uint8_t pin, uint8_t *room, size_t size)
+{
+    struct table t;
+    uint8_t refusal;
+
+    /* "25 ..., after 24 and before 19" */
+    if ((refusal = plain_judge_walk(bytes, n, &t)) != 0)
+        return refused(refusal);
+
+    /* 24: "bus not listed" */
+    const uint8_t *entry = entry_of(&t, bus);
+    if (entry == NULL)
+        return refused(24);
+
+    /* 25: "bus listed but not PCI, or device or pin out of range" */
+    if (!is_pci(entry) || device > 31 || pin > 3)
+        return refused(25);
+
+    /* "bits 0-1 the pin ..., bits 2-6 the device"; "bit 7 ignored" */
+    struct source from = { INT, bus, (uint8_t)(device << 2 | pin), 127 };
+    return routes_of(&t, &io_side, &from, room, size);
 }
 
 /* ---- addresses ---- */

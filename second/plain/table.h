@@ -2,6 +2,7 @@
 #ifndef PLAIN_TABLE_H
 #define PLAIN_TABLE_H
 
+#include <stdbool.h>
 #include <stddef.h>
 #include <stdint.h>
 
@@ -17,7 +18,9 @@ enum {
     EXT_FIRST = 128,
     EXT_TYPES = 3,
 
-    ENABLED = 1, BOOTSTRAP = 2
+    ENABLED = 1, BOOTSTRAP = 2,
+
+    INT = 0            /* the interrupt type */
 };
 
 /*
@@ -47,6 +50,12 @@ static inline uint32_t get32(const uint8_t *p)
 static inline uint64_t get64(const uint8_t *p)
 {
     return get32(p) | (uint64_t)get32(p + 4) << 32;
+}
+
+/* Whether a bus entry names PCI: the upper six of its eight bytes, "PCI   ". */
+static inline bool is_pci(const uint8_t *e)
+{
+    return get64(e) >> 16 == UINT64_C(0x202020494350);
 }
 
 static inline void put16(uint8_t *p, uint32_t v)

@@ -217,6 +217,41 @@ void make_many_targets(struct builder *b, uint32_t part)
     one_source(b, 250);
 }
 
+void make_pci_slots(struct builder *b, uint32_t part)
+{
+    uint32_t n = 168 / part;
+
+    processors(b, 1, 0);
+    pci_buses(b, n);
+    io_apics(b, 1, 1);
+    for (uint32_t i = 0; i < 2 * n - 1; i++)
+        add_interrupt(b, 3, 0, 0, (uint8_t)(i / 2),
+                      (uint8_t)((i & 1 ? 0x94 : 0x08) + i / 2 % 4), 1,
+                      (uint8_t)i);
+}
+
+/* So many interrupts, of so many slots of bus 0 in turn, which lie so far apart. */
+static void slots(struct builder *b, uint32_t n, uint32_t n_slot, uint32_t apart)
+{
+    processors(b, 1, 0);
+    pci_buses(b, 2);
+    io_apics(b, 1, 1);
+    for (uint32_t i = 0; i < n; i++)
+        add_interrupt(b, 3, 0, 0, 0,
+                      (uint8_t)(i % n_slot * apart | (i / n_slot & 1) << 7), 1,
+                      (uint8_t)i);
+}
+
+void make_all_slots(struct builder *b, uint32_t part)
+{
+    slots(b, 501 / part, 128 / part, part);
+}
+
+void make_one_slot(struct builder *b, uint32_t part)
+{
+    slots(b, 501 / part, 1, 0);
+}
+
 void make_bench(struct builder *b, uint32_t part)
 {
     uint8_t board[HEADER + 52];
@@ -224,6 +259,12 @@ void make_bench(struct builder *b, uint32_t part)
     (void)part;
     bench_board(board);
     unseal(b, board);
+}
+
+void make_pci_bench(struct builder *b, uint32_t part)
+{
+    make_bench(b, part);
+    memcpy(b->base + 20 + 2, "PCI   ", 6);   /* behind the processor */
 }
 
 void make_typical(struct builder *b, uint32_t part)

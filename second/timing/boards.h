@@ -26,13 +26,22 @@ make_board make_processors, make_buses, make_pci_buses, make_io_apics,
 make_board make_sixteen;
 
 /*
+ * Full of interrupts of PCI slots, to one I/O APIC: of two slots on each of 167
+ * buses, of all 128 slots of a bus, and of one slot.  Bit 7 is set in some.
+ */
+make_board make_pci_slots, make_all_slots, make_one_slot;
+
+/*
  * 253 interrupts of one source to all of 250 I/O APICs, of which two are on, or
  * all.  These have one size, and so do
  */
 make_board make_few_targets, make_many_targets;
 
-/* the bench board, and some 40 entries on PCI and ISA, as boards of the day have. */
-make_board make_bench, make_typical;
+/*
+ * the bench board, it with a PCI bus for its ISA bus, and some 40 entries on PCI and
+ * ISA, as boards of the day have.
+ */
+make_board make_bench, make_pci_bench, make_typical;
 
 /* Where the floating pointer of a dump stands; and the table in it. */
 enum pointer { FIRST, LAST, NOWHERE };

@@ -62,6 +62,8 @@ static struct call {
     { .name = "entry", .kind = 'P', .ask = linked_call },
     { .name = "io_routes", .kind = 'I', .ask = linked_call },
     { .name = "local_routes", .kind = 'C', .ask = linked_call },
+    { .name = "slot_routes", .kind = 'R', .ask = linked_call },
+    { .name = "slots", .kind = 'S', .ask = linked_call },
     { .name = "address", .kind = 'A', .ask = linked_call },
 }, known = { .name = "(known)", .ask = take_known };
 

@@ -41,11 +41,14 @@ enum {
     EVERY = BIT(WORKS) - 1,
     DUMPS = BIT(READ) | BIT(ADDRESSES) | BIT(LIST) | BIT(LIST_FITTING),
     LISTS = BIT(JUDGE) | BIT(LIST) | BIT(LIST_FITTING),
-    BOTH_ROUTES = BIT(ROUTES) | BIT(LOCAL_ROUTES)
+    BOTH_ROUTES = BIT(ROUTES) | BIT(LOCAL_ROUTES),
+    BOTH_SLOTS = BIT(SLOT_ROUTES) | BIT(SLOTS)
 };
 
 static const struct board boards[] = {
-    { "bench board", make_bench, 0, FIRST, EVERY, 0 },
+    /* It has no slot to ask about. */
+    { "bench board", make_bench, 0, FIRST, EVERY & ~BIT(SLOT_ROUTES), 0 },
+    { "bench board on PCI", make_pci_bench, 0, FIRST, BOTH_SLOTS, 0 },
     { "a typical board, 42 entries", make_typical, 0, FIRST, EVERY, 0 },
     { "full table, all entry types", make_mixed, 0, FIRST, EVERY, EVERY },
     { "full table in 65,536 bytes", make_mixed, SUBJECT_ROOM, LAST, EVERY, DUMPS },
@@ -75,6 +78,10 @@ static const struct board boards[] = {
     { "253 entries to all of 250, two on", make_few_targets, 0, FIRST, BIT(ROUTES),
       0 },
     { "253 entries to all of 250", make_many_targets, 0, FIRST, BIT(ROUTES), 0 },
+    { "167 PCI buses of two slots", make_pci_slots, 0, FIRST, BOTH_SLOTS,
+      BOTH_SLOTS },
+    { "a PCI bus of 128 slots", make_all_slots, 0, FIRST, BOTH_SLOTS, BOTH_SLOTS },
+    { "501 entries of one slot", make_one_slot, 0, FIRST, BOTH_SLOTS, BOTH_SLOTS },
 };
 
 /* ---- what is asked of the board in b ---- */
@@ -118,8 +125,8 @@ static void ask_write(struct subject *s)
     s->ext_end = s->base_end + b.ext_len;
 }
 
-/* The source of an interrupt in the middle of them. */
-static void ask_routes(struct subject *s, uint8_t entry)
+/* The interrupt in the middle of them. */
+static const uint8_t *middle(uint8_t entry)
 {
     size_t first = 0, last = b.base_len;
 
@@ -127,9 +134,36 @@ static void ask_routes(struct subject *s, uint8_t entry)
         first += entry_length(b.base + first);
     while (b.base[last - 8] != entry)
         last -= 8;
+    return b.base + first + (last - first) / 16 * 8;
+}
 
-    const uint8_t *e = b.base + first + (last - first) / 16 * 8;
+static void ask_routes(struct subject *s, uint8_t entry)
+{
+    const uint8_t *e = middle(entry);
+
     s->type = e[1], s->bus = e[4], s->irq = e[5];
+}
+
+static bool on_pci(uint8_t bus)
+{
+    for (size_t at = 0; at < b.base_len; at += entry_length(b.base + at))
+        if (b.base[at] == 1 && b.base[at + 1] == bus)
+            return memcmp(b.base + at + 2, "PCI   ", 6) == 0;
+    return false;
+}
+
+/* The slot of an interrupt in the middle, or of the next one that is routed. */
+static void ask_slot(struct subject *s)
+{
+    const uint8_t *e = middle(3);
+
+    while (e[0] == 3 && (e[1] != 0 || !on_pci(e[4])))
+        e += 8;
+    if (e[0] != 3) {
+        fprintf(stderr, "%s: no slot to ask about\n", s->name);
+        exit(2);
+    }
+    s->bus = e[4], s->device = e[5] >> 2 & 31, s->pin = e[5] & 3;
 }
 
 /* An address that no bus has, on the first bus that climbs. */
@@ -165,7 +199,8 @@ static const char *const works[WORKS] = {
     [ADDRESSES] = "addresses in a dump", [LIST] = "list",
     [LIST_FITTING] = "list, room just fits", [EDIT] = "edit",
     [EDIT_REFUSED] = "edit refused with 23", [WRITE] = "write",
-    [ROUTES] = "route", [LOCAL_ROUTES] = "local route", [ADDRESS] = "address",
+    [ROUTES] = "route", [LOCAL_ROUTES] = "local route",
+    [SLOT_ROUTES] = "slot route", [SLOTS] = "slots", [ADDRESS] = "address",
     [IO_ADDRESS] = "I/O address", [WALK] = "walk the entries",
 };
 
@@ -174,8 +209,11 @@ const char *label(const struct subject *s)
     static char text[2 * LABEL_WIDTH];
     int n = snprintf(text, sizeof text, "%s: %s", works[s->work], s->name);
 
-    if (BIT(s->work) & BOTH_ROUTES)
+    if (BIT(s->work) & (BOTH_ROUTES | BIT(SLOT_ROUTES)))
         snprintf(text + n, sizeof text - (size_t)n, ", pairs %zu",
+                 ruxtajma_count(s->answer));
+    if (s->work == SLOTS)
+        snprintf(text + n, sizeof text - (size_t)n, ", slots %zu",
                  ruxtajma_count(s->answer));
     if (s->work == ADDRESS || s->work == IO_ADDRESS)
         snprintf(text + n, sizeof text - (size_t)n, ", links %u",
@@ -238,6 +276,7 @@ static void make_subject(const struct board *k, enum work work, uint32_t part)
     case WRITE: ask_write(s); break;
     case ROUTES: ask_routes(s, 3); break;
     case LOCAL_ROUTES: ask_routes(s, 4); break;
+    case SLOT_ROUTES: ask_slot(s); break;
     case ADDRESS: ask_address(s); break;
     case IO_ADDRESS: ask_io_address(s); break;
     default: break;

@@ -8,13 +8,13 @@
 
 enum { OURS, PLAIN_O2, PLAIN_O3, PROGRAMS };
 enum {
-    SUBJECTS_MAX = 100, SUBJECT_ROOM = 65536, ROOM_SIZE = 1 << 17,
+    SUBJECTS_MAX = 120, SUBJECT_ROOM = 65536, ROOM_SIZE = 1 << 17,
     LABEL_WIDTH = 67
 };
 
 enum work {
     JUDGE, PARTS, READ, ADDRESSES, LIST, LIST_FITTING, EDIT, EDIT_REFUSED, WRITE,
-    ROUTES, LOCAL_ROUTES, ADDRESS, IO_ADDRESS, WALK, WORKS
+    ROUTES, LOCAL_ROUTES, SLOT_ROUTES, SLOTS, ADDRESS, IO_ADDRESS, WALK, WORKS
 };
 
 struct subject {
@@ -34,8 +34,8 @@ struct subject {
     struct fields fields;      /* of a table to write */
     size_t base_end, ext_end;
 
-    /* Of a table to ask: where the interrupt comes from, or the address. */
-    uint8_t type, bus, irq, kind;
+    /* Of a table to ask: where the interrupt comes from, a slot, or the address. */
+    uint8_t type, bus, irq, device, pin, kind;
     uint64_t address;
 
     double ns[PROGRAMS];       /* of a call, median */
@@ -55,7 +55,7 @@ void make_doubled(void);
 /* What is done, to what; and how much the answer of a query holds. */
 const char *label(const struct subject *s);
 
-/* Where listings, images and pairs go. */
+/* Where listings, images, pairs and slots go. */
 extern uint8_t room[ROOM_SIZE];
 
 /*

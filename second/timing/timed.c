@@ -69,6 +69,10 @@ uint64_t TIMED(struct subject *s)
     case LOCAL_ROUTES:
         return CALL(local_routes)(s->bytes, s->size, s->type, s->bus, s->irq,
                                   room, s->room);
+    case SLOT_ROUTES:
+        return CALL(slot_routes)(s->bytes, s->size, s->bus, s->device, s->pin,
+                                 room, s->room);
+    case SLOTS: return CALL(slots)(s->bytes, s->size, room, s->room);
     case ADDRESS: case IO_ADDRESS:
         return CALL(address)(s->bytes, s->size, s->bus, s->kind, s->address);
     case WALK: return walk(s);
