@@ -7,10 +7,12 @@ TOO_SMALL = "    if (count > size / 2)\n        return refused(19);\n"
 TAKEN = "        if (in(&c->taken, bus))\n            return answer(NO, links);\n"
 HELD = "        if (in(&c->held, bus))\n            return answer(YES, links);\n"
 NOT_UP = "        if (!in(&c->subtractive, bus))\n            return answer(in(&c->declared, bus) ? NO : UNDECLARED, links);\n"
-WRITE = "    if (count > 0)\n        put_pairs(t, side, from, &to, room);\n    return counted(count);\n"
+WRITE = "    if (count > 0)\n        put_pairs(&h, &to, room);\n    return counted(count);\n"
 ANSWER = "    return counted(count);\n}\n\nstatic uint64_t routes("
 ROUTED = "    return routes_of(&t, side, from, room, size);\n"
-TO_ALL = "            p = put_to_all(p, to, e[7]);\n"
+TO_ALL = "            p = put_to_all(p, to, input);\n"
+HIT = "        if ((get64(e) & mask) != want || (e[6] != ALL && !in(&to->set, e[6])))\n"
+KEEP = "        put_pair(h->to + 2 * n++, e[6], e[7]);\n"
 ON_LIST = "    bool touched = q->kind == 0 && q->address < 65536;\n"
 COVERS = "e[3] == q->kind && q->address - get64(e + 4) < get64(e + 12)"
 JUDGED = "    /* \"Queries test the table, then 24, then 19\" */\n    if ((refusal = plain_judge_walk(bytes, n, &t)) != 0)\n        return refused(refusal);\n"
@@ -71,28 +73,34 @@ QUERY = [
  (0, "enabled ones by 255 only", "            add(&to->set, e[1]);\n", ""),
  (0, "bootstrap left out", "if (e[3] & ENABLED) {", "if ((e[3] & 3) == ENABLED) {"),
  (0, "last APIC left out", "at < end; at += side->apic_size)", "at + side->apic_size < end; at += side->apic_size)"),
- (0, "255 skipped", "count += e[6] == ALL ? to->n : in(&to->set, e[6]);", "count += in(&to->set, e[6]);"),
- (0, "255 counted and not written", "        if (e[6] == ALL)\n", "        if (0)\n"),
- (0, "255 to the first", TO_ALL, "            for (size_t i = 0; i < to->n; i++)\n                p = put_pair(p, to->pairs[0], e[7]);\n"),
- (0, "255 in the pair", TO_ALL, "            for (size_t i = 0; i < to->n; i++)\n                p = put_pair(p, ALL, e[7]);\n"),
- (0, "255 backwards", TO_ALL, "            for (size_t i = 0; i < to->n; i++)\n                p = put_pair(p, to->pairs[2 * (to->n - 1 - i)], e[7]);\n"),
- (0, "255 by rising ID", TO_ALL, "            for (unsigned i = 0; i < 256; i++) {\n                if (in(&to->set, (uint8_t)i))\n                    p = put_pair(p, (uint8_t)i, e[7]);\n            }\n"),
- (0, "254 is all too", "count += e[6] == ALL ?", "count += e[6] >= ALL - 1 ?"),
+ (0, "255 skipped", "(e[6] != ALL && !in(&to->set, e[6]))", "!in(&to->set, e[6])"),
+ (0, "255 counted as one", "return n - to_all + to_all * to->n;", "return n;"),
+ (0, "255 written as one", "    if (h->to_all == 0) {\n", "    if (1) {\n"),
+ (0, "255 written as the only one", "    if (h->to_all == 0) {\n", "    if (h->to_all == 0 || to->n == 1) {\n"),
+ (0, "255 to the first", TO_ALL, "            for (size_t i = 0; i < to->n; i++)\n                p = put_pair(p, to->pairs[0], input);\n"),
+ (0, "255 in the pair", TO_ALL, "            for (size_t i = 0; i < to->n; i++)\n                p = put_pair(p, ALL, input);\n"),
+ (0, "255 backwards", TO_ALL, "            for (size_t i = 0; i < to->n; i++)\n                p = put_pair(p, to->pairs[2 * (to->n - 1 - i)], input);\n"),
+ (0, "255 by rising ID", TO_ALL, "            for (unsigned i = 0; i < 256; i++) {\n                if (in(&to->set, (uint8_t)i))\n                    p = put_pair(p, (uint8_t)i, input);\n            }\n"),
+ (0, "254 is all too", "to_all += e[6] == ALL;", "to_all += e[6] >= ALL - 1;"),
  (0, "input first", "    p[0] = id;\n    p[1] = input;\n", "    p[0] = input;\n    p[1] = id;\n"),
- (0, "IRQ for input", "p = put_pair(p, e[6], e[7]);", "p = put_pair(p, e[6], e[5]);"),
- (0, "IRQ for input, 255", "p = put_to_all(p, to, e[7]);", "p = put_to_all(p, to, e[5]);"),
+ (0, "IRQ for input", KEEP, KEEP.replace("e[7]", "e[5]")),
+ (0, "255 for input, 255", TO_ALL, TO_ALL.replace("input", "id")),
  (0, "255 by fours only", "    for (; i < to->n; i++)\n        put_pair(p + 2 * i, to->pairs[2 * i], input);\n", ""),
+ (0, "pairs by fours only", "    for (; i < h->n; i++)\n        put_pair(p + 2 * i, h->to[2 * i], h->to[2 * i + 1]);\n", ""),
+ (0, "three of four pairs", "memcpy(p + 2 * i, h->to + 2 * i, 8);", "memcpy(p + 2 * i, h->to + 2 * i, 6);"),
+ (0, "four pairs over one too few", "h->n - i >= 4;", "h->n - i >= 3;"),
+ (0, "hits with one to all put as pairs", "    if (h->to_all == 0) {\n", "    if (h->to_all < 2) {\n"),
  (0, "fours of three", "0, 1, 0, 1 };", "0, 1, 0, 0 };"),
- (0, "type not compared", "return e[1] == from->type && ", "return "),
- (0, "bus not compared", " && e[4] == from->bus", ""),
- (0, "IRQ not compared", "\n        && (e[5] & from->bits) == from->irq", ""),
- (0, "type in its low bit", "e[1] == from->type", "(e[1] & 1) == (from->type & 1)"),
- (0, "IRQ in five bits", "(e[5] & from->bits) == from->irq", "(e[5] & 31) == (from->irq & 31)"),
+ (0, "type by its set bits", "mask = place(255, 255, from->bits);", "mask = place(from->type, 255, from->bits);"),
+ (0, "bus by its set bits", "mask = place(255, 255, from->bits);", "mask = place(255, from->bus, from->bits);"),
+ (0, "IRQ by its set bits", "mask = place(255, 255, from->bits);", "mask = place(255, 255, from->irq);"),
+ (0, "type in its low bit", "(get64(e) & mask) != want", "((get64(e) ^ want) & mask & ~place(2, 0, 0)) != 0"),
+ (0, "IRQ in five bits", "(get64(e) & mask) != want", "((get64(e) ^ want) & mask & ~place(0, 0, 224)) != 0"),
  (0, "routes ignore bit 7 too", "{ type, bus, irq, 255 };\n\n    return routes(t, n, &io_side", "{ type, bus, irq & 127, 127 };\n\n    return routes(t, n, &io_side"),
- (0, "flags must be 0", "return e[1] == from->type && ", "return e[2] == 0 && e[1] == from->type && "),
- (0, "first match only, counted", "            count += e[6] == ALL ? to->n : in(&to->set, e[6]);\n", "            count = count != 0 ? count : e[6] == ALL ? to->n : in(&to->set, e[6]);\n"),
- (0, "two equal entries once", "        if (comes_from(e, from))\n", "        if (comes_from(e, from) && !(at > t->base[side->interrupts] && get64(e - 8) == get64(e)))\n"),
- (0, "entries backwards", "        const uint8_t *e = t->bytes + at;\n\n        if (!comes_from(e, from))\n", "        const uint8_t *e = t->bytes + (end - 8 - (at - t->base[side->interrupts]));\n\n        if (!comes_from(e, from))\n"),
+ (0, "flags must be 0", "        if ((get64(e) & mask)", "        if (e[2] != 0 || (get64(e) & mask)"),
+ (0, "first match only", HIT, HIT.replace("if (", "if (n > 0 || ", 1)),
+ (0, "two equal entries once", HIT, HIT.replace("if (", "if ((at > t->base[side->interrupts] && get64(e - 8) == get64(e)) || ", 1)),
+ (0, "entries backwards", "        const uint8_t *e = t->bytes + at;\n\n" + HIT, "        const uint8_t *e = t->bytes + (end - 8 - (at - t->base[side->interrupts]));\n\n" + HIT),
  (0, "local asks I/O interrupts", "local_side = { LOCAL_INT, PROCESSOR, 20 }", "local_side = { IO_INT, PROCESSOR, 20 }"),
  (0, "local asks I/O APICs", "local_side = { LOCAL_INT, PROCESSOR, 20 }", "local_side = { LOCAL_INT, IO_APIC, 8 }"),
  (0, "I/O asks processors", "io_side = { IO_INT, IO_APIC, 8 }", "io_side = { IO_INT, PROCESSOR, 20 }"),

@@ -1,8 +1,7 @@
 /*
  * The plain queries: where an interrupt goes, given its source or a PCI slot, and
  * whether an address is one of a bus.  All judge the table first; what they ask of
- * it then is one pass over the entries concerned, and for routes one more that
- * writes.
+ * it then is one pass over the entries concerned.
  */
 #include "plain.h"
 #include "set.h"
@@ -75,25 +74,40 @@ static void gather_targets(const struct table *t, const struct side *side,
     }
 }
 
-static bool comes_from(const uint8_t *e, const struct source *from)
+/* The entries of a source that reach an enabled APIC. */
+struct hits {
+    uint8_t to[(PART_MAX - HEADER_SIZE) / 8 * 2];   /* (destination, input) */
+    size_t n;
+    size_t to_all;            /* how many of them go to 255 */
+};
+
+/* Type, bus and IRQ where they stand in an entry, its eight bytes as one number. */
+static uint64_t place(uint64_t type, uint64_t bus, uint64_t irq)
 {
-    return e[1] == from->type && e[4] == from->bus
-        && (e[5] & from->bits) == from->irq;
+    return type << 8 | bus << 32 | irq << 40;
 }
 
-static size_t count_pairs(const struct table *t, const struct side *side,
-                          const struct source *from, const struct targets *to)
+/* Answers how many pairs they make. */
+static size_t gather_hits(const struct table *t, const struct side *side,
+                          const struct source *from, const struct targets *to,
+                          struct hits *h)
 {
+    uint64_t mask = place(255, 255, from->bits);
+    uint64_t want = place(from->type, from->bus, from->irq);
     size_t end = t->base[side->interrupts + 1];
-    size_t count = 0;
+    size_t n = 0, to_all = 0;
 
     for (size_t at = t->base[side->interrupts]; at < end; at += 8) {
         const uint8_t *e = t->bytes + at;
 
-        if (comes_from(e, from))
-            count += e[6] == ALL ? to->n : in(&to->set, e[6]);
+        if ((get64(e) & mask) != want || (e[6] != ALL && !in(&to->set, e[6])))
+            continue;
+        put_pair(h->to + 2 * n++, e[6], e[7]);
+        to_all += e[6] == ALL;
     }
-    return count;
+    h->n = n;
+    h->to_all = to_all;
+    return n - to_all + to_all * to->n;
 }
 
 /*
@@ -118,21 +132,30 @@ static uint8_t *put_to_all(uint8_t *p, const struct targets *to, uint8_t input)
     return p + 2 * to->n;
 }
 
-static void put_pairs(const struct table *t, const struct side *side,
-                      const struct source *from, const struct targets *to,
-                      uint8_t *p)
+/* Where none goes to all, the hits are the pairs: four at once. */
+static void put_hits(const struct hits *h, uint8_t *p)
 {
-    size_t end = t->base[side->interrupts + 1];
+    size_t i = 0;
 
-    for (size_t at = t->base[side->interrupts]; at < end; at += 8) {
-        const uint8_t *e = t->bytes + at;
+    for (; h->n - i >= 4; i += 4)
+        memcpy(p + 2 * i, h->to + 2 * i, 8);
+    for (; i < h->n; i++)
+        put_pair(p + 2 * i, h->to[2 * i], h->to[2 * i + 1]);
+}
 
-        if (!comes_from(e, from))
-            continue;
-        if (e[6] == ALL)
-            p = put_to_all(p, to, e[7]);
-        else if (in(&to->set, e[6]))
-            p = put_pair(p, e[6], e[7]);
+static void put_pairs(const struct hits *h, const struct targets *to, uint8_t *p)
+{
+    if (h->to_all == 0) {
+        put_hits(h, p);
+        return;
+    }
+    for (size_t i = 0; i < h->n; i++) {
+        uint8_t id = h->to[2 * i], input = h->to[2 * i + 1];
+
+        if (id == ALL)
+            p = put_to_all(p, to, input);
+        else
+            p = put_pair(p, id, input);
     }
 }
 
@@ -140,15 +163,16 @@ static uint64_t routes_of(const struct table *t, const struct side *side,
                           const struct source *from, uint8_t *room, size_t size)
 {
     struct targets to;
+    struct hits h;
 
     /* 19: "answer longer than the lent room" */
     gather_targets(t, side, &to);
-    size_t count = count_pairs(t, side, from, &to);
+    size_t count = gather_hits(t, side, from, &to, &h);
     if (count > size / 2)
         return refused(19);
 
     if (count > 0)
-        put_pairs(t, side, from, &to, room);
+        put_pairs(&h, &to, room);
     return counted(count);
 }
 
