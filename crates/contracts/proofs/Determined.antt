@@ -18,6 +18,7 @@ use Rattle.slices.proofs.same.Reads as slices-same
 use Rattle.slices.proofs.copy.Reads as slices-copy
 use Rattle.slices.proofs.clear.Reads as slices-clear
 use Rattle.tables.proofs.names.is_bus_name.Reads as tables-names-is-bus-name
+use Rattle.tables.proofs.names.is_pci.Reads as tables-names-is-pci
 use Rattle.tables.proofs.names.quick.Reads as tables-names-quick
 use Rattle.tables.proofs.ranges.ranges.Reads as tables-ranges-ranges
 use Rattle.sets.proofs.empty.Reads as sets-empty
@@ -40,6 +41,8 @@ use Rattle.apics.proofs.wrong_processors.Reads as apics-wrong-processors
 use Rattle.apics.proofs.wrong_io_apics.Reads as apics-wrong-io-apics
 use Rattle.buses.proofs.wrong.Reads as buses-wrong
 use Rattle.buses.proofs.is_listed.Reads as buses-is-listed
+use Rattle.buses.proofs.is_pci.Reads as buses-is-pci
+use Rattle.buses.proofs.pci.Reads as buses-pci
 use Rattle.interrupts.proofs.wrong_io.Reads as interrupts-wrong-io
 use Rattle.interrupts.proofs.wrong_local.Reads as interrupts-wrong-local
 use Rattle.spaces.proofs.wrong_mappings.Reads as spaces-wrong-mappings
@@ -80,8 +83,10 @@ use Rattle.writer.proofs.fields.Reads as writer-fields
 use Rattle.editor.proofs.edit.Reads as editor-edit
 use Rattle.routes.proofs.io.Reads as routes-io
 use Rattle.routes.proofs.local.Reads as routes-local
+use Rattle.routes.proofs.slot.Reads as routes-slot
 use Rattle.marks.proofs.gather.Reads as marks-gather
 use Rattle.addresses.proofs.seen.Reads as addresses-seen
+use Rattle.slots.proofs.list.Reads as slots-list
 use Rattle.exports.proofs.ruxtajma_judge.Reads as ruxtajma-judge
 use Rattle.exports.proofs.ruxtajma_parts.Reads as ruxtajma-parts
 use Rattle.exports.proofs.ruxtajma_entry.Reads as ruxtajma-entry
@@ -90,6 +95,8 @@ use Rattle.exports.proofs.ruxtajma_addresses.Reads as ruxtajma-addresses
 use Rattle.exports.proofs.ruxtajma_list.Reads as ruxtajma-list
 use Rattle.exports.proofs.ruxtajma_io_routes.Reads as ruxtajma-io-routes
 use Rattle.exports.proofs.ruxtajma_local_routes.Reads as ruxtajma-local-routes
+use Rattle.exports.proofs.ruxtajma_slot_routes.Reads as ruxtajma-slot-routes
+use Rattle.exports.proofs.ruxtajma_slots.Reads as ruxtajma-slots
 use Rattle.exports.proofs.ruxtajma_address.Reads as ruxtajma-address
 use Rattle.exports.proofs.ruxtajma_write.Reads as ruxtajma-write
 use Rattle.exports.proofs.ruxtajma_edit.Reads as ruxtajma-edit
@@ -143,6 +150,9 @@ slices-clear-determined κ a x y s t p q = p ∙ sym q
 
 pub tables-names-is-bus-name-determined : Answers tables-names-is-bus-name.Post
 tables-names-is-bus-name-determined κ a x y s t p q = p ∙ sym q
+
+pub tables-names-is-pci-determined : Answers tables-names-is-pci.Post
+tables-names-is-pci-determined κ a x y s t p q = p ∙ sym q
 
 pub tables-names-quick-determined : Answers tables-names-quick.Post
 tables-names-quick-determined κ a x y s t p q = p ∙ sym q
@@ -229,6 +239,12 @@ buses-wrong-determined κ a x y s t p q = (p .0 ∙ sym (q .0), p .1 ∙ sym (q 
 
 pub buses-is-listed-determined : Answers buses-is-listed.Post
 buses-is-listed-determined κ a x y s t p q = p ∙ sym q
+
+pub buses-is-pci-determined : Answers buses-is-pci.Post
+buses-is-pci-determined κ a x y s t p q = p ∙ sym q
+
+pub buses-pci-determined : Leaves buses-pci.Post (λ κ s. now (s .0))
+buses-pci-determined κ a x y s t p q = p ∙ sym q
 
 -- ---- interrupts
 
@@ -386,6 +402,9 @@ routes-io-determined κ a x y s t p q = (p .0 ∙ sym (q .0), p .1 ∙ sym (q .1
 pub routes-local-determined : Determines routes-local.Post (λ κ s. now (s .1 .1 .1 .1 .0))
 routes-local-determined κ a x y s t p q = (p .0 ∙ sym (q .0), p .1 ∙ sym (q .1))
 
+pub routes-slot-determined : Determines routes-slot.Post (λ κ s. now (s .1 .1 .1 .1 .0))
+routes-slot-determined κ a x y s t p q = (p .0 ∙ sym (q .0), p .1 ∙ sym (q .1))
+
 -- ---- marks
 
 pub marks-gather-determined : Leaves marks-gather.Post (λ κ s. both (now (s .0)) (now (s .1 .0)))
@@ -395,6 +414,11 @@ marks-gather-determined κ a x y s t p q = λ i. ((p .0 ∙ sym (q .0)) i, (p .1
 
 pub addresses-seen-determined : Answers addresses-seen.Post
 addresses-seen-determined κ a x y s t p q = p ∙ sym q
+
+-- ---- slots
+
+pub slots-list-determined : Determines slots-list.Post (λ κ s. now (s .1 .0))
+slots-list-determined κ a x y s t p q = (p .0 ∙ sym (q .0), p .1 ∙ sym (q .1))
 
 -- ---- exports
 
@@ -421,6 +445,12 @@ ruxtajma-io-routes-determined κ a x y s t p q = (p .0 ∙ sym (q .0), p .1 ∙ 
 
 pub ruxtajma-local-routes-determined : Determines ruxtajma-local-routes.Post (λ κ s. now (s .1 .1 .1 .1 .0))
 ruxtajma-local-routes-determined κ a x y s t p q = (p .0 ∙ sym (q .0), p .1 ∙ sym (q .1))
+
+pub ruxtajma-slot-routes-determined : Determines ruxtajma-slot-routes.Post (λ κ s. now (s .1 .1 .1 .1 .0))
+ruxtajma-slot-routes-determined κ a x y s t p q = (p .0 ∙ sym (q .0), p .1 ∙ sym (q .1))
+
+pub ruxtajma-slots-determined : Determines ruxtajma-slots.Post (λ κ s. now (s .1 .0))
+ruxtajma-slots-determined κ a x y s t p q = (p .0 ∙ sym (q .0), p .1 ∙ sym (q .1))
 
 pub ruxtajma-address-determined : Answers ruxtajma-address.Post
 ruxtajma-address-determined κ a x y s t p q = p ∙ sym q
