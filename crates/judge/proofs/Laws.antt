@@ -118,16 +118,10 @@ pub placed-listed : (t : List ℕ) (p : Sections) → Placed t p → (bus : ℕ)
 unfolding isListed idsOf
 placed-listed t p places bus = rw (places .buses)
 
--- Those that are PCI buses, and whether one of them is.
-pub placed-pci-buses : (t : List ℕ) (p : Sections) → Placed t p
-    → pciBuses (baseEntries t) ≡ each idOf (keep isPci (rows entrySize (part (p .buses) (p .ioapics) t)))
-unfolding pciBuses
-placed-pci-buses t p places = rw (places .buses)
-
 pub placed-pci : (t : List ℕ) (p : Sections) → Placed t p → (bus : ℕ)
     → onPci (baseEntries t) bus ≡ among bus (each idOf (keep isPci (rows entrySize (part (p .buses) (p .ioapics) t))))
-unfolding onPci
-placed-pci t p places bus = rw (placed-pci-buses t p places)
+unfolding onPci pciBuses
+placed-pci t p places bus = rw (places .buses)
 
 pub placed-buses : (t : List ℕ) (p : Sections) → Placed t p → length (idsOf busType (baseEntries t)) ≡ (p .ioapics - p .buses) / entrySize
 unfolding idsOf

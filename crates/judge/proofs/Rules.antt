@@ -1,19 +1,19 @@
 -- The rules 14 to 18 in the words of the crates that test them: the roll in the place of lists, and the rows between two places
 -- in the place of the entries of a type; and what the roll shows behind each rule. Assumes nothing.
-use Prim.Native.Nat.{ℕ, _-_, _%_, _<_}
+use Prim.Native.Nat.{ℕ, _%_, _<_}
 use mathlib.Core.Path.{_≡_, refl, sym, _∙_}
 use mathlib.Core.Bool.{Bool, true, false, not, _||_, _&&_, or-true, or-false, or-assoc, and-true, and-false}
 use mathlib.Core.List.{List, []}
-use lib.ListN.{length, drop, replicate, length-replicate}
+use lib.ListN.{length, replicate, length-replicate}
 use lib.Dec.{eqb}
 use Rattle.mps.specs.Words.{part, bit, among, twice, keep, any, every, each}
 use Rattle.mps.specs.Layout.{ofType, headerSize, baseEntries, extendedEntries, localApic, localApicStep, everyone, enabled, extendedBus}
-use Rattle.mps.specs.Layout.{processorType, busType, ioApicType, ioInterruptType, localInterruptType, mappingType, hierarchyType, modifierType, baseEntryLength, extendedEntryLength, baseLength, extendedEnd, basePart, extendedPart}
+use Rattle.mps.specs.Layout.{processorType, busType, ioApicType, ioInterruptType, localInterruptType, mappingType, hierarchyType, modifierType, extendedEntryLength, baseLength, extendedEnd, extendedPart}
 use Rattle.mps.specs.Rules.{enabledOf, idsOf, enabledIds, bootstraps, wrongProcessors, wrongBuses, wrongIoApics, wrongInterrupt, wrongInput, wrongOnSide, wrongInterrupts, links, circle}
 use Rattle.mps.specs.Rules.{wrongMapping, wrongHierarchy, wrongModifier, wrongSpaces}
 use Rattle.mps.specs.Sections.{rows}
 use Rattle.mps.specs.declared.Sections.{Sections}
-use Rattle.laws.proofs.Small.{Bytes, Small, bytes-take, bytes-drop, small-cut, small-keep, small-rows, any-same, any-or}
+use Rattle.laws.proofs.Small.{Small, bytes-part, small-cut, small-base, small-keep, small-rows, any-same, any-or}
 use Rattle.roll.specs.Roll.{marked, withMarks}
 use Rattle.roll.specs.Calls.{called}
 use Rattle.roll.proofs.Laws.{length-marks, marked-put, marked-none, length-called}
@@ -73,16 +73,9 @@ module _ (t : List ℕ) (p : Sections) (h : Placed t p) where
   abbrev apicBytes : List ℕ
   apicBytes = part (p .ioapics) (p .interrupts) t
 
-  bytes-part : (from to : ℕ) → Bytes (part from to t)
-  bytes-part from to = bytes-take (to - from) (drop from t) (bytes-drop from t (h .bytes))
-
-  small-base : Small (baseEntries t)
-  unfolding baseEntries
-  small-base = small-cut baseEntryLength 0 (basePart t) (bytes-part headerSize (baseLength t))
-
   small-extended : Small (extendedEntries t)
   unfolding extendedEntries
-  small-extended = small-cut extendedEntryLength 0 (extendedPart t) (bytes-part (baseLength t) (extendedEnd t))
+  small-extended = small-cut extendedEntryLength 0 (extendedPart t) (bytes-part (baseLength t) (extendedEnd t) t (h .bytes))
 
   -- ---- 14
 
@@ -91,7 +84,7 @@ module _ (t : List ℕ) (p : Sections) (h : Placed t p) where
   rule-14 =
       let boots = bootstraps (baseEntries t) in
       let ids = enabledIds processorType (baseEntries t) in
-      rw (cpus-wrong started (starts .size) (rows 20 processorBytes) (small-rows 20 processorBytes (bytes-part headerSize (p .buses))) (starts .claimed-shown), ← h .processors)
+      rw (cpus-wrong started (starts .size) (rows 20 processorBytes) (small-rows 20 processorBytes (bytes-part headerSize (p .buses) t (h .bytes))) (starts .claimed-shown), ← h .processors)
       (five (not (eqb (localApic t % localApicStep) 0)) (not (eqb (length boots) 1)) (not (every enabled boots)) (among everyone ids) (twice ids))
 
   module _ (fine : wrongProcessorsIn started (rows 20 processorBytes) ≡ false) where
@@ -117,7 +110,7 @@ module _ (t : List ℕ) (p : Sections) (h : Placed t p) where
     pub rule-15 : wrongBuses (baseEntries t) ≡ called busCall roll (rows 8 busBytes) .wrong
     unfolding wrongBuses idsOf
     rule-15 =
-        let small = small-rows 8 busBytes (bytes-part (p .buses) (p .ioapics)) in
+        let small = small-rows 8 busBytes (bytes-part (p .buses) (p .ioapics) t (h .bytes)) in
         sym (buses-wrong roll (r .size) (rows 8 busBytes) small (r .buses-shown) ∙ rw (← h .buses))
 
     pub next-15 :
@@ -138,7 +131,7 @@ module _ (t : List ℕ) (p : Sections) (h : Placed t p) where
     pub rule-16 : wrongIoApics (baseEntries t) ≡ called ioApicCall roll (rows 8 apicBytes) .wrong
     unfolding wrongIoApics enabledIds enabledOf
     rule-16 =
-        let small = small-rows 8 apicBytes (bytes-part (p .ioapics) (p .interrupts)) in
+        let small = small-rows 8 apicBytes (bytes-part (p .ioapics) (p .interrupts) t (h .bytes)) in
         sym (ios-wrong roll (r .size) (rows 8 apicBytes) small (enabledIds processorType (baseEntries t)) (r .claimed-shown) ∙ rw (← h .ioapics))
 
     module _ (fine : called ioApicCall roll (rows 8 apicBytes) .wrong ≡ false) where
@@ -167,7 +160,7 @@ module _ (t : List ℕ) (p : Sections) (h : Placed t p) where
   -- ---- 17
 
   small-of : (n : ℕ) → Small (keep (ofType n) (baseEntries t))
-  small-of n = small-keep (ofType n) small-base
+  small-of n = small-keep (ofType n) (small-base t (h .bytes))
 
   module _ {roll : List ℕ} (r : Named t roll) where
     pub rule-17 :

@@ -1,7 +1,7 @@
 -- Laws of the words about lists. Assumes nothing.
 use Prim.Native.Nat.{ℕ, zero, suc, _+_, _-_, _≤_, _<_}
 use mathlib.Core.Path.{_≡_, refl, ap, sym, _∙_}
-use mathlib.Core.Bool.{Bool, true, false, _||_, _&&_, false≢true, and-false, or-true}
+use mathlib.Core.Bool.{Bool, true, false, _||_, _&&_, false≢true, and-false, or-true, or-assoc}
 use mathlib.Core.List.{List, [], _∷_, _++_}
 use native.Mathlib.Omega.{arith}
 use native.Mathlib.Nat.{sub-zero}
@@ -11,7 +11,7 @@ use lib.Seq.{drop-cons}
 use lib.Dec.{eqb}
 use borrow.Author.Tests.{eqb-true, eqb-false, eq-eqb}
 use Rattle.mps.specs.Words.{byte, among, keep, any, each, exactly}
-use Rattle.laws.proofs.Tests.{whether, either, or-parts, or-assoc}
+use Rattle.laws.proofs.Tests.{whether, either, or-parts}
 
 -- ---- among
 
@@ -88,7 +88,14 @@ any-none p d (x ∷ xs) e (suc i) h = any-none p d xs (or-parts (p x) (any p xs)
 pub any-append : {A : Type 0} (p : A → Bool) (xs ys : List A) → any p (xs ++ ys) ≡ (any p xs || any p ys)
 unfolding any
 any-append p [] ys = refl
-any-append p (x ∷ xs) ys = rw (any-append p xs ys) (or-assoc (p x) (any p xs) (any p ys))
+any-append p (x ∷ xs) ys = rw (any-append p xs ys) (sym (or-assoc (p x) (any p xs) (any p ys)))
+
+-- A test before them all is a test of each.
+pub any-and : {A : Type 0} (b : Bool) (p : A → Bool) (xs : List A) → any (λ (x : A). b && p x) xs ≡ (b && any p xs)
+unfolding any
+any-and b p [] = sym (and-false b)
+any-and true p (x ∷ xs) = refl
+any-and false p (x ∷ xs) = any-and false p xs
 
 -- From place i on: nothing is left, the element there passes the test, or it does not.
 module _ {A : Type 0} (p : A → Bool) (l : List A) (d : A) (i : ℕ) where
@@ -126,13 +133,6 @@ pub keep-keep : {A : Type 0} (p q : A → Bool) (xs : List A) → keep p (keep q
 unfolding keep
 keep-keep p q [] = refl
 keep-keep p q (x ∷ xs) = whether (q x) (λ e. rw (e, keep, keep-keep p q xs)) (λ e. rw (e, keep, keep-keep p q xs))
-
--- A test before them all is a test of each.
-pub any-and : {A : Type 0} (b : Bool) (p : A → Bool) (xs : List A) → any (λ (x : A). b && p x) xs ≡ (b && any p xs)
-unfolding any
-any-and b p [] = sym (and-false b)
-any-and true p (x ∷ xs) = refl
-any-and false p (x ∷ xs) = any-and false p xs
 
 -- Two tests that agree at every place keep the same.
 pub keep-agree :

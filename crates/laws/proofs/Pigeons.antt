@@ -1,16 +1,16 @@
 -- The pigeonhole: numbers that are all among fewer ones are not all different. Assumes nothing.
-use Prim.Native.Nat.{ℕ, zero, suc, _+_, _≤_, _<_}
+use Prim.Native.Nat.{ℕ, suc, _≤_, _<_}
 use mathlib.Core.Path.{_≡_, refl, sym, ap, _∙_}
 use mathlib.Core.Bool.{true, false, true≢false}
 use mathlib.Core.List.{List, [], _∷_}
 use native.Mathlib.Omega.{arith}
 use lib.ListN.{length}
-use lib.Dec.{ltb, eqb}
-use borrow.Author.Tests.{eqb-true, eqb-false, ltb-true, ltb-false}
-use Rattle.mps.specs.Words.{among, twice, rising, below}
+use lib.Dec.{ltb}
+use borrow.Author.Tests.{ltb-true, ltb-false}
+use Rattle.mps.specs.Words.{among, twice, below}
 use Rattle.laws.proofs.Tests.{whether}
 use Rattle.laws.proofs.Small.{Bytes}
-use Rattle.laws.proofs.Rising.{length-rising}
+use Rattle.laws.proofs.Rising.{length-rising, among-rising}
 use Rattle.laws.proofs.Lists.{among-none, among-first, among-rest, among-cases, Within}
 
 -- A number can be taken out of a list that it is among, and the others stay.
@@ -40,14 +40,6 @@ apart-most xs ys f d =
     (λ q. ltb-false (length ys) (length xs) q)
 
 -- ---- Bytes
-
-among-rising : (n k x : ℕ) → k ≤ x → x < k + n → among x (rising n k) ≡ true
-unfolding rising
-among-rising zero k x l h = absurd (omega (arith, l, h))
-among-rising (suc n) k x l h =
-    whether (eqb x k)
-    (λ q. among-first x k (rising n (suc k)) (eqb-true x k q))
-    (λ q. among-rest x k (rising n (suc k)) (among-rising n (suc k) x (omega (arith, l, eqb-false x k q)) (omega (arith, h))))
 
 among-byte : (xs : List ℕ) → Bytes xs → (x : ℕ) → among x xs ≡ true → x < 256
 among-byte [] b x a = absurd (among-none x a)

@@ -8,15 +8,24 @@ use native.Mathlib.Nat.{zero-add, add-zero, add-suc, suc-add, add-comm, zero-mul
 use lib.ListN.{length}
 use lib.Dec.{eqb}
 use borrow.Author.Tests.{ne-eqb, eqb-true, eqb-false}
-use Rattle.mps.specs.Words.{keep, joined, rising, below}
+use Rattle.mps.specs.Words.{among, keep, joined, rising, below}
 use Rattle.laws.proofs.Tests.{whether}
-use Rattle.laws.proofs.Lists.{keep-in, keep-out}
+use Rattle.laws.proofs.Lists.{among-first, among-rest, keep-in, keep-out}
 use Rattle.laws.proofs.Joined.{joined-append}
 
 pub length-rising : (n k : ℕ) → length (rising n k) ≡ n
 unfolding rising
 length-rising zero k = refl
 length-rising (suc n) k = ap suc (length-rising n (suc k))
+
+-- Each from the first one on is among them.
+pub among-rising : (n k x : ℕ) → k ≤ x → x < k + n → among x (rising n k) ≡ true
+unfolding rising
+among-rising zero k x l h = absurd (omega (arith, l, h))
+among-rising (suc n) k x l h =
+    whether (eqb x k)
+    (λ q. among-first x k (rising n (suc k)) (eqb-true x k q))
+    (λ q. among-rest x k (rising n (suc k)) (among-rising n (suc k) x (omega (arith, l, eqb-false x k q)) (omega (arith, h))))
 
 -- The first ones, and those behind them.
 pub rising-append : (a b k : ℕ) → rising (a + b) k ≡ rising a k ++ rising b (a + k)

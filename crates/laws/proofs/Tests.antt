@@ -46,10 +46,6 @@ pub or-parts : (p q : Bool) → (p || q) ≡ false → (p ≡ false) × (q ≡ f
 or-parts true q e = absurd (true≢false e)
 or-parts false q e = (refl, e)
 
-pub or-assoc : (a b c : Bool) → (a || (b || c)) ≡ ((a || b) || c)
-or-assoc true b c = refl
-or-assoc false b c = refl
-
 pub or-swap : (a b c : Bool) → (a || (b || c)) ≡ (b || (a || c))
 or-swap true true c = refl
 or-swap true false c = refl

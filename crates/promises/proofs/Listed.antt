@@ -13,7 +13,7 @@ use Rattle.mps.specs.Words.{text, byte, flag, among, twice, any, every, keep, p
 use Rattle.mps.specs.Buses.{isBusName}
 use Rattle.mps.specs.Layout.{Entry, type, ofType, lastBaseType, processorType, busType, ioApicType, ioInterruptType, localInterruptType}
 use Rattle.mps.specs.Layout.{mappingType, hierarchyType, modifierType}
-use Rattle.mps.specs.Layout.{headerSize, basePart, extendedPart, extendedEnd, baseEntryLength, extendedEntryLength}
+use Rattle.mps.specs.Layout.{extendedPart, extendedEnd, extendedEntryLength}
 use Rattle.mps.specs.Layout.{baseLength, extendedLength, entryCount, baseEntries, extendedEntries}
 use Rattle.mps.specs.Layout.{memoryEnd, enabled, bootstrap, nameOf, addressOf, spaceBase, spaceLength, subtractiveBit, takesBit}
 use Rattle.mps.specs.Layout.{interruptType, interruptTypeMost, polarity, trigger, reservedMode, sourceBus, destination, everyone}

@@ -1,7 +1,7 @@
 -- Document 02, ask 1, "a listing of every bus, device and pin on a PCI bus that a type 3 entry names, whatever its interrupt
 -- type, each once, three bytes, in that order rising": which slots it gives, their order and number, and the listing's numbers,
 -- "given exactly when". Where a bus ID must be a byte, the table is of bytes, as every lent buffer is. Assumes nothing.
-use Prim.Native.Nat.{ℕ, _*_, _/_, _≤_, _<_}
+use Prim.Native.Nat.{ℕ, _-_, _*_, _/_, _≤_, _<_}
 use mathlib.Core.Path.{_≡_, refl, sym, _∙_}
 use mathlib.Core.Bool.{true, false, false≢true}
 use mathlib.Core.Logic.{_↔_}
@@ -11,7 +11,7 @@ use lib.ListN.{length, getD, drop}
 use lib.Dec.{ltb, eqb}
 use borrow.Author.Tests.{ltb-true, ltb-false, le-ltb}
 use Rattle.mps.specs.Words.{byte, among, any, keep, each}
-use Rattle.mps.specs.Layout.{ofType, ioInterruptType, interruptType, vectored, baseEntries}
+use Rattle.mps.specs.Layout.{ofType, ioInterruptType, headerSize, partMost, entrySize, interruptType, vectored, baseEntries}
 use Rattle.mps.specs.Judge.{tableRules, tableRefusal}
 use Rattle.mps.specs.Refusals.{_when_}
 use Rattle.mps.specs.Rooms.{tooSmall, roomRules, lentRefusal}
@@ -105,19 +105,19 @@ module _ (t room : List ℕ) where
   slots-19 = lent-19 (tableRules t) (tooSmall (length (slotsOf t)) room) refl
 
   -- A base of at most 4,096 bytes has room for 506 entries behind its header, so there are at most 506 slots,
-  pub slots-506 : tableRefusal t ≡ 0 → length (slotsOf t) ≤ 506 * slotSize
+  pub slots-limit : tableRefusal t ≡ 0 → length (slotsOf t) ≤ (partMost - headerSize) / entrySize * slotSize
   unfolding slotsOf
-  slots-506 a =
+  slots-limit a =
       let es = baseEntries t in
       let least = entries-least t a in
       let most = sound t a .most in
       omega (arith, slots-length es, codes-most es, keep-most (ofType ioInterruptType) es)
 
   -- and a room of 1,518 bytes holds the listing of any accepted table.
-  pub slots-room : tableRefusal t ≡ 0 → 1518 ≤ length room → slotsRefusal t room ≡ 0
+  pub slots-room : tableRefusal t ≡ 0 → (partMost - headerSize) / entrySize * slotSize ≤ length room → slotsRefusal t room ≡ 0
   unfolding tooSmall any roomRules
   slots-room a h =
-      let fits : length (slotsOf t) ≤ length room = omega (arith, slots-506 a) in
+      let fits : length (slotsOf t) ≤ length room = omega (arith, slots-limit a, h) in
       slots-none .1
       (any-append so (tableRules t) (19 when tooSmall (length (slotsOf t)) room ∷ [])
       ∙ rw (given-none t .0 a, le-ltb (length room) (length (slotsOf t)) fits))

@@ -1,20 +1,23 @@
 -- Document 02, ask 1, "Existing routes still compare the whole byte": how the pairs of a PCI slot stand to those of a route
 -- query. Assumes nothing.
-use Prim.Native.Nat.{ℕ, zero, suc, _*_, _/_, _%_, _<_}
+use Prim.Native.Nat.{ℕ, zero, suc, _/_, _%_, _<_}
 use mathlib.Core.Path.{_≡_, refl, sym, ap, _∙_}
-use mathlib.Core.Bool.{Bool, true, false, _&&_}
+use mathlib.Core.Bool.{Bool, true, false, not, _&&_, or-false}
 use mathlib.Core.List.{List, [], _∷_}
 use native.Mathlib.Omega.{arith}
 use lib.ListN.{getD, set}
 use lib.Seq.{getD-set-other}
 use lib.Dec.{eqb}
-use borrow.Author.Tests.{eqb-true, eqb-false, eq-eqb}
+use borrow.Author.Tests.{eqb-true, eqb-false, lt-leb}
 use Rattle.mps.specs.Words.{byte, bit, any, keep, each, joined}
-use Rattle.mps.specs.Layout.{Entry, type, ofType, enabled, ioApicType, ioInterruptType, idOf, destination, input, interruptType, vectored, sourceBus, sourceIrq, pins, devices, pinOf, deviceOf, baseEntries}
-use Rattle.mps.specs.Rules.{enabledOf}
-use Rattle.mps.specs.Routes.{asked, matches, names, pair, pairsTo, routes, routesOf}
-use Rattle.mps.specs.Slots.{Slot, namesSlot, wiredFrom, slotRoutes, slotRoutesOf}
-use Rattle.laws.proofs.Tests.{whether, and-parts, same-test}
+use Rattle.mps.specs.Layout.{Entry, type, ofType, enabled, ioApicType, ioInterruptType, idOf, destination, input, interruptType, vectored, sourceBus, sourceIrq, pins, devices, baseEntries}
+use Rattle.mps.specs.Refusals.{refusal}
+use Rattle.mps.specs.Rooms.{roomRules, lentRefusal}
+use Rattle.mps.specs.Rules.{enabledOf, isListed}
+use Rattle.mps.specs.Judge.{tableRules}
+use Rattle.mps.specs.Routes.{asked, matches, names, pair, pairsTo, routes, routesOf, wrongLine, lineRules, routeRefusal, routed, routesLeft}
+use Rattle.mps.specs.Slots.{Slot, onPci, wiredFrom, slotRoutes, slotRoutesOf, wrongSlot, slotRules, slotRefusal, slotRouted, slotRoutesLeft}
+use Rattle.laws.proofs.Tests.{whether}
 use Rattle.laws.proofs.Lists.{any-none, keep-agree, keep-each}
 use Rattle.laws.proofs.Joined.{joined-same, joined-each}
 use Rattle.laws.proofs.Small.{Bytes, small-at, small-base}
@@ -58,6 +61,24 @@ module _ (s : Slot) (h : InRange s) where
       (keep-agree (wiredFrom s) (matches (asRoute s)) [] (baseEntries t) (λ i l.
       let e = getD (baseEntries t) i [] in
       wired-low e ∙ low-whole e (small-at (small-base t b) i 5) (any-none (sevenSet (s .bus)) [] (baseEntries t) clear i l)))
+
+  -- Of a PCI bus that is the whole answer: the number, the count and what is left in the room.
+  module _ (t room : List ℕ) (b : Bytes t) (pci : onPci (baseEntries t) (s .bus) ≡ true) (clear : any (sevenSet (s .bus)) (baseEntries t) ≡ false) where
+    right : wrongSlot s t ≡ false
+    unfolding wrongSlot
+    right = rw (pci, lt-leb devices (s .device) (h .device-low), lt-leb pins (s .pin) (h .pin-low))
+
+    listed : wrongLine (asRoute s) t ≡ not (isListed (baseEntries t) (s .bus))
+    unfolding wrongLine
+    listed = or-false (not (isListed (baseEntries t) (s .bus)))
+
+    same-number : slotRefusal s t room ≡ routeRefusal (asRoute s) t room
+    unfolding slotRefusal routeRefusal lentRefusal roomRules slotRules lineRules tableRules refusal
+    same-number = rw (slot-as-routes t b clear, right, listed)
+
+    pub slot-answers-as-routes : (slotRouted s t room ≡ routed (asRoute s) t room) × (slotRoutesLeft s t room ≡ routesLeft (asRoute s) t room)
+    unfolding slotRouted slotRoutesLeft routed routesLeft
+    slot-answers-as-routes = (rw (same-number, slot-as-routes t b clear), rw (same-number, slot-as-routes t b clear))
 
 -- ---- With bit 7 taken out
 

@@ -1,8 +1,7 @@
 -- `names_pci` meets its contract: the number is that of the name (`pci-named`).
-use mathlib.Core.Path.{_∙_, ap}
+use mathlib.Core.Path.{_∙_}
 use native.Mathlib.Omega.{arith}
 use borrow.Author.Needs.{needs}
-use Rattle.tables.specs.Quick.{pciName}
 use Rattle.buses.proofs.Laws.{pci-named}
 use Rattle.buses.proofs.names_pci.Statement.{statement}
 use Rattle.buses.proofs.names_pci.Tie as tie
