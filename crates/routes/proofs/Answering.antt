@@ -2,15 +2,17 @@
 use Prim.Native.Nat.{ℕ, zero, suc, _+_, _-_, _*_, _/_, _≤_, _<_}
 use mathlib.Core.Path.{_≡_, refl, sym, ap, _∙_}
 use mathlib.Core.Bool.{Bool, true, false, not}
-use mathlib.Core.List.{List, [], _∷_}
+use mathlib.Core.List.{List}
+use native.Mathlib.Nat.{mul-assoc}
 use native.Mathlib.Omega.{arith}
 use native.Mathlib.Numerals.{add-one}
 use lib.ListN.{length, take, drop, replicate}
 use lib.Seq.{sets, length-sets, take-at}
-use borrow.Author.Tests.{lt-ltb, le-ltb, ltb-true, ltb-false}
+use lib.Dec.{leb}
+use borrow.Author.Tests.{lt-ltb, le-ltb, ltb-true, ltb-false, le-leb, leb-true, leb-false, not-true, not-false}
 use Rattle.mps.specs.Words.{keep, twice, part}
 use Rattle.mps.specs.Refusals.{roomNumber}
-use Rattle.mps.specs.Layout.{Entry, ofType, ioInterruptType, localInterruptType, headerSize, processorSize, entrySize, enabled, baseLength, baseEntryLength, basePart, baseEntries}
+use Rattle.mps.specs.Layout.{Entry, ofType, ioInterruptType, localInterruptType, headerSize, processorSize, entrySize, enabled, destination, baseLength, baseEntryLength, basePart, baseEntries}
 use Rattle.mps.specs.Sections.{rows}
 use Rattle.mps.specs.Judge.{tableRefusal}
 use Rattle.mps.specs.Rooms.{tooSmall, fitLeft}
@@ -22,17 +24,17 @@ use Rattle.laws.proofs.Small.{Bytes, small-keep, small-rows, below-each}
 use Rattle.laws.proofs.Pigeons.{bytes-most}
 use Rattle.laws.proofs.Stores.{sets-at-start}
 use Rattle.laws.proofs.Parts.{length-part}
-use Rattle.laws.proofs.Refusals.{number}
 use Rattle.laws.proofs.Lent.{fit-put, fit-short}
 use Rattle.laws.proofs.Rows.{rows-count}
 use Rattle.laws.proofs.Lists.{keep-most}
 use Rattle.laws.proofs.Cut.{cut-most}
 use Rattle.judge.specs.Placed.{Placed}
 use Rattle.accepted.proofs.Sound.{sound}
-use Rattle.routes.specs.Pairs.{sideOf, pairsOf, enabledIn, pairsIn, countIn, told, meant}
+use Rattle.routes.specs.Pairs.{sideOf, pairsOf, enabledIn, named, pairsFor, pairsIn, countIn, told, meant}
 use Rattle.roll.specs.Roll.{takenBit, enrolled, OnRoll}
 use Rattle.roll.proofs.Laws.{enrolled-on}
-use Rattle.routes.proofs.Laws.{pairs-count, io-apart, local-apart, io-pairs, local-pairs}
+use Rattle.routes.proofs.Laws.{length-pairs, pairs-count, kept-most, io-apart, local-apart, io-pairs, local-pairs}
+use Rattle.routes.proofs.Counting.{named-most}
 use Rattle.routes.proofs.Numbers.{paired}
 
 -- ---- One side
@@ -77,12 +79,10 @@ module _ (pairs room : List ℕ) where
   unfolding told tooSmall
   gives-short h = (rw (lt-ltb (length room) (length pairs) h), fit-short pairs 0 room h .1)
 
-  gives-put : (n : ℕ) {u : List ℕ} → n * pairSize ≡ length pairs → length pairs ≤ length room → u ≡ sets room 0 pairs
-      → Gives pairs room (n + 1) u
+  gives-put : {n : ℕ} {u : List ℕ} → n ≡ length pairs → length pairs ≤ length room → u ≡ sets room 0 pairs
+      → Gives pairs room (n / pairSize + 1) u
   unfolding told tooSmall
-  gives-put n e h q =
-      let half : n + 1 ≡ length pairs / pairSize + 1 = omega (arith, e) in
-      (rw (le-ltb (length room) (length pairs) h) half, fit-put pairs n room refl h q .1)
+  gives-put e h q = (rw (le-ltb (length room) (length pairs) h, e), fit-put pairs 0 room refl h q .1)
 
   -- The answer that the number stands for.
   pub told-meant : meant (told pairs room) ≡ paired pairs room
@@ -92,31 +92,38 @@ module _ (pairs room : List ℕ) where
       (λ s. rw s (fit-short pairs (length pairs / pairSize) room (ltb-true (length room) (length pairs) s) .0))
       (λ s. rw (s, add-one (length pairs / pairSize)) (fit-put pairs (length pairs / pairSize) room refl (ltb-false (length room) (length pairs) s) refl .0))
 
-sets-none : (t : List ℕ) (at : ℕ) (w : List ℕ) → length w ≡ 0 → t ≡ sets t at w
-sets-none t at [] z = refl
-sets-none t at (x ∷ w) z = absurd (omega (arith, z))
+-- Whether they fit: there is room for a pair for each ID in each entry, or for as many as were counted.
+module _ (ids : List ℕ) (p : Entry → Bool) (s : List ℕ) (room : ℕ) where
+  abbrev all : List ℕ
+  all = pairsIn ids p (rows entrySize s)
 
--- The IDs as they were read, and how many pairs were counted.
+  most-pairs : length all ≤ length s / 8 * (length ids * pairSize)
+  unfolding pairsIn pairsFor
+  most-pairs =
+      rw (← rows-count s)
+      (kept-most (pairsFor ids) (length ids * pairSize)
+      (λ e. rw (length-pairs e (named ids (destination e))) (omega (arith, named-most ids (destination e)))) p (rows entrySize s))
+
+  pub room-most : length s / 8 * length ids * pairSize ≤ room → true ≡ leb (length all) room
+  room-most h = sym (le-leb (length all) room (omega (arith, h, most-pairs, mul-assoc (length s / 8) (length ids) pairSize)))
+
+  pub room-counted : {n : ℕ} → n ≡ countIn ids p (rows entrySize s) → leb (n * pairSize) room ≡ leb (length all) room
+  room-counted e = rw (pairs-count ids p (rows entrySize s), e)
+
+-- The IDs as they were read, and whether the pairs fit.
 module _ (ids : List ℕ) (p : Entry → Bool) (es : List Entry) (room : List ℕ) {read : List ℕ} (same : read ≡ ids)
-    {n : ℕ} (e : n ≡ countIn read p es) where
-  size : length (pairsIn ids p es) ≡ n * pairSize
-  size = pairs-count ids p es ∙ ap (λ (k : ℕ). k * pairSize) (sym (rw same at e))
+    {fit : Bool} (e : fit ≡ leb (length (pairsIn read p es)) (length room)) where
+  pub answer-short : not fit ≡ true → Gives (pairsIn ids p es) room 0 room
+  answer-short h =
+      gives-short (pairsIn ids p es) room (leb-false (length (pairsIn ids p es)) (length room) (sym (rw same at e) ∙ not-true fit h))
 
-  -- There are none, they do not fit, or they do.
-  pub answer-none : n ≡ 0 → Gives (pairsIn ids p es) room 1 room
-  answer-none z =
-      gives-put (pairsIn ids p es) room 0 (omega (arith, size, z)) (omega (arith, size, z))
-      (sets-none room 0 (pairsIn ids p es) (omega (arith, size, z)))
-
-  pub answer-short : length room < n * pairSize → Gives (pairsIn ids p es) room 0 room
-  answer-short h = gives-short (pairsIn ids p es) room (rw size h)
-
-  module _ (h : n * pairSize ≤ length room) where
+  module _ (h : not fit ≡ false) where
     pub answer-room : length (pairsIn read p es) ≤ length room
-    answer-room = rw same (rw size h)
+    answer-room = leb-true (length (pairsIn read p es)) (length room) (sym e ∙ not-false fit h)
 
-    pub answer-put : {u : List ℕ} → u ≡ sets room 0 (pairsIn read p es) → Gives (pairsIn ids p es) room (n + 1) u
-    answer-put q = gives-put (pairsIn ids p es) room n (sym size) (rw size h) (rw same at q)
+    pub answer-put : {n : ℕ} {u : List ℕ} → n ≡ length (pairsIn read p es) → u ≡ sets room 0 (pairsIn read p es)
+        → Gives (pairsIn ids p es) room (n / pairSize + 1) u
+    answer-put k q = gives-put (pairsIn ids p es) room (rw same at k) (rw same at answer-room) (rw same at q)
 
 -- ---- The sides of a table
 

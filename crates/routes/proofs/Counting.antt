@@ -14,7 +14,7 @@ use Rattle.mps.specs.Sums.{total}
 use Rattle.mps.specs.Layout.{Entry, enabled, busSlots}
 use Rattle.mps.specs.Sections.{rows}
 use Rattle.laws.proofs.Tests.{whether}
-use Rattle.laws.proofs.Lists.{keep-in, keep-out}
+use Rattle.laws.proofs.Lists.{among-at, keep-in, keep-out}
 use Rattle.laws.proofs.Rows.{rows-done, rows-next, row-byte}
 use Rattle.apics.proofs.Laws.{row-enabled}
 use Rattle.roll.specs.Roll.{takenBit, marked, withMarks, enrolled, OnRoll}
@@ -57,11 +57,12 @@ module _ (ids : List ℕ) (to : ℕ) where
     unfolding named
     named-none f = rw (ne-eqb to 255 n, found f)
 
--- An entry names no more IDs than 256, where there are no more.
-pub named-most : (ids : List ℕ) (to : ℕ) → length ids ≤ 256 → length (named ids to) ≤ 256
+-- An entry names no more IDs than there are.
+pub named-most : (ids : List ℕ) (to : ℕ) → length (named ids to) ≤ length ids
 unfolding named
-named-most ids to h =
-    whether (eqb to 255) (λ e. rw e h) (λ e. rw e (whether (among to ids) (λ f. rw f (omega arith)) (λ f. rw f (omega arith))))
+named-most ids to =
+    whether (eqb to 255) (λ e. rw e (omega arith))
+    (λ e. rw e (whether (among to ids) (λ f. rw f (omega (arith, among-at to ids f .1))) (λ f. rw f (omega arith))))
 
 -- ---- countIn
 
@@ -95,7 +96,7 @@ module _ (ids : List ℕ) (p : Entry → Bool) (s : List ℕ) (pairs at : ℕ) (
     counts-named n t h g =
         let more : countIn ids p (rows 8 (drop at s)) ≡ n + countIn ids p rest =
         rw (next, keep-in p row rest (sym e ∙ t), row-byte 8 s at 6 (omega arith), g) in
-        (omega (arith, more, inv .0), omega (arith, f), omega (arith, g, named-most ids (getD s (at + 6) 0) h, inv .2))
+        (omega (arith, more, inv .0), omega (arith, f), omega (arith, g, named-most ids (getD s (at + 6) 0), h, inv .2))
 
     pub counts-other : r ≡ false → Counts ids p s pairs (at + 8)
     unfolding countIn

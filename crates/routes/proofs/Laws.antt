@@ -1,8 +1,9 @@
 -- What an accepted table's routes are, by the IDs of its enabled APICs. Assumes nothing.
-use Prim.Native.Nat.{ℕ, _+_, _*_, _/_, _%_, _<_}
+use Prim.Native.Nat.{ℕ, _+_, _*_, _/_, _%_, _≤_, _<_}
 use mathlib.Core.Path.{_≡_, refl, ap, sym, fun-ext}
 use mathlib.Core.Bool.{Bool, true, false, _&&_, and-assoc}
 use mathlib.Core.List.{List, [], _∷_}
+use native.Mathlib.Nat.{mul-le-mul}
 use native.Mathlib.Omega.{arith}
 use lib.ListN.{length, length-append}
 use lib.Dec.{eqb}
@@ -17,8 +18,8 @@ use Rattle.mps.specs.Routes.{question, asked, matches, names, pair, pairSize, p
 use Rattle.mps.specs.Slots.{slot, namesSlot, wiredFrom, slotRoutes, slotRoutesOf}
 use Rattle.mps.specs.declared.Sections.{Sections}
 use Rattle.laws.proofs.Tests.{whether, same-test, and-parts, or-parts}
-use Rattle.laws.proofs.Lists.{keep-keep}
-use Rattle.laws.proofs.Joined.{joined-same}
+use Rattle.laws.proofs.Lists.{keep-keep, keep-most}
+use Rattle.laws.proofs.Joined.{joined-same, joined-most}
 use Rattle.judge.specs.Placed.{Placed}
 use Rattle.accepted.proofs.Obeyed.{obeyed}
 use Rattle.routes.specs.Pairs.{wired, pairsOf, enabledIn, named, pairsFor, pairsIn, countIn}
@@ -52,7 +53,7 @@ named-ids e apics d =
 
 -- ---- Counts
 
-length-pairs : (e : Entry) (ids : List ℕ) → length (joined (pair e) ids) ≡ length ids * pairSize
+pub length-pairs : (e : Entry) (ids : List ℕ) → length (joined (pair e) ids) ≡ length ids * pairSize
 unfolding joined pair
 length-pairs e [] = refl
 length-pairs e (x ∷ ids) = omega (arith, length-pairs e ids)
@@ -71,6 +72,13 @@ length-joined ids (e ∷ es) =
 pub pairs-count : (ids : List ℕ) (p : Entry → Bool) (es : List Entry) → length (pairsIn ids p es) ≡ countIn ids p es * pairSize
 unfolding pairsIn countIn counts
 pairs-count ids p es = length-joined ids (keep p es)
+
+-- What is made of the elements that pass a test, of each no more than m.
+pub kept-most : {A B : Type 0} (f : A → List B) (m : ℕ) → ((x : A) → length (f x) ≤ m) → (p : A → Bool) (xs : List A)
+    → length (joined f (keep p xs)) ≤ length xs * m
+kept-most f m h p xs =
+    let same : m ≤ m = omega arith in
+    omega (arith, joined-most f m h (keep p xs), mul-le-mul (keep-most p xs) same)
 
 -- ---- The routes of a table, between its places
 

@@ -16,6 +16,7 @@ use Rattle.laws.proofs.Lists.{keep-most, length-each}
 use Rattle.laws.proofs.Joined.{joined-most}
 use Rattle.laws.proofs.Small.{Bytes}
 use Rattle.accepted.proofs.Sound.{entries-most}
+use Rattle.routes.proofs.Laws.{kept-most}
 use Rattle.routes.proofs.Numbers.{lineOwn, line-some, slotOwn, slot-some, given-none}
 
 enabled-most : (n : ℕ) (es : List Entry) → length (enabledOf n es) ≤ length es
@@ -32,12 +33,7 @@ pairs-most apics e =
 lines-most : (n : ℕ) (test : Entry → Bool) (es : List Entry) → length (joined (pairsTo (enabledOf n es)) (keep test es)) ≤ length es * (length es * 2)
 lines-most n test es =
     let apics = enabledOf n es in
-    let lines = keep test es in
-    let one : (e : Entry) → length (pairsTo apics e) ≤ length es * 2 =
-    λ e. omega (arith, pairs-most apics e, enabled-most n es) in
-    let all = joined-most (pairsTo apics) (length es * 2) one lines in
-    let few : length es * 2 ≤ length es * 2 = omega arith in
-    omega (arith, all, mul-le-mul (keep-most test es) few)
+    kept-most (pairsTo apics) (length es * 2) (λ e. omega (arith, pairs-most apics e, enabled-most n es)) test es
 
 table-most : (n : ℕ) (test : Entry → Bool) (t : List ℕ) → Bytes t → tableRefusal t ≡ 0
     → length (joined (pairsTo (enabledOf n (baseEntries t))) (keep test (baseEntries t))) / pairSize < 2 ^ 32

@@ -5,10 +5,10 @@ use mathlib.Core.Bool.{Bool, true, false, not, _||_, or-true}
 use mathlib.Core.List.{List, [], _∷_}
 use native.Mathlib.Omega.{arith}
 use lib.Dec.{leb}
-use borrow.Author.Tests.{lt-ltb, le-ltb, leb-false}
+use borrow.Author.Tests.{lt-ltb, le-ltb, leb-false, not-false}
 use Rattle.mps.specs.Words.{keep, each, among, part}
 use Rattle.mps.specs.Refusals.{Rule, _when_, refusal, queryNumber}
-use Rattle.mps.specs.Layout.{entrySize, interruptTypeMost, vectored, pins, devices, idOf, baseEntries}
+use Rattle.mps.specs.Layout.{Entry, entrySize, interruptTypeMost, vectored, pins, devices, idOf, baseEntries}
 use Rattle.mps.specs.Rules.{ioSide, isListed}
 use Rattle.mps.specs.Sections.{rows}
 use Rattle.mps.specs.Judge.{tableRefusal}
@@ -17,7 +17,8 @@ use Rattle.mps.specs.Slots.{Slot, slot, isPci, slotRoutesOf, wrongSlot}
 use Rattle.mps.specs.declared.Sections.{Sections}
 use Rattle.mps.specs.declared.Lent.{Lent}
 use Rattle.mps.specs.declared.Lent.the-variants.{Refused}
-use Rattle.laws.proofs.Tests.{or-parts}
+use Rattle.laws.proofs.Tests.{whether, or-parts}
+use Rattle.laws.proofs.Lists.{among-first, among-rest, among-cases}
 use Rattle.laws.proofs.Refusals.{number, refusal-stop, refusal-go, refusal-end}
 use Rattle.judge.specs.Placed.{Placed}
 use Rattle.judge.proofs.Laws.{placed-listed, placed-pci}
@@ -33,10 +34,20 @@ own-told t own some pairs room a z g e =
     own-passed t own some pairs room a z (e ∙ ap meant (g .0) ∙ told-meant pairs room) (g .1)
 
 -- What passes 25 has a device and a pin.
-pub slot-inside : (b : Bool) (device pin : ℕ) → (b || leb devices device || leb pins pin) ≡ false → (device < devices) × (pin < pins)
-slot-inside b device pin w =
-    let h = or-parts (b || leb devices device) (leb pins pin) w in
-    (leb-false devices device (or-parts b (leb devices device) (h .0) .1), leb-false pins pin (h .1))
+pub slot-inside : (device pin : ℕ) → (leb devices device || leb pins pin) ≡ false → (device < devices) × (pin < pins)
+slot-inside device pin w =
+    let h = or-parts (leb devices device) (leb pins pin) w in
+    (leb-false devices device (h .0), leb-false pins pin (h .1))
+
+-- A bus among the IDs of some entries is among those of all.
+among-kept : (x : ℕ) (q : Entry → Bool) (es : List Entry) → among x (each idOf (keep q es)) ≡ true → among x (each idOf es) ≡ true
+unfolding each keep
+among-kept x q [] a = a
+among-kept x q (e ∷ es) a =
+    whether (q e)
+    (λ t. among-cases x (idOf e) (each idOf (keep q es)) (rw (t, keep) at a)
+    (among-first x (idOf e) (each idOf es)) (λ b. among-rest x (idOf e) (each idOf es) (among-kept x q es b)))
+    (λ f. among-rest x (idOf e) (each idOf es) (among-kept x q es (rw (f, keep) at a)))
 
 module _ (t : List ℕ) (p : Sections) (a : tableRefusal t ≡ 0) (placed : Placed t p) where
   listed : (bus : ℕ) {found : Bool} → found ≡ among bus (each idOf (rows entrySize (part (p .buses) (p .ioapics) t)))
@@ -76,34 +87,43 @@ module _ (t : List ℕ) (p : Sections) (a : tableRefusal t ≡ 0) (placed : Plac
 
   -- ---- By a slot
 
-  module _ (bus device pin : ℕ) (room : List ℕ) {found : Bool} (e : found ≡ among bus (each idOf (rows entrySize (part (p .buses) (p .ioapics) t)))) where
+  module _ (bus device pin : ℕ) (room : List ℕ) {pci : Bool} (f : pci ≡ among bus (each idOf (keep isPci (rows entrySize (part (p .buses) (p .ioapics) t))))) where
     abbrev s : Slot
     s = slot bus device pin
 
     slot-refused : {n : ℕ} → refusal (slotOwn s t) ≡ n → (n ≡ 0 → ⊥) → AnswersSlot s t room (Refused n) room
     slot-refused k z = slot-answers t room s (own-refused t (slotOwn s t) (slot-some s t) (slotRoutesOf s t) room a k z)
 
-    -- 24.
-    pub not-listed : not found ≡ true → AnswersSlot s t room (Refused queryNumber) room
-    not-listed h = slot-refused (refusal-stop queryNumber _ (rw (listed bus e) h)) (λ z. omega (arith, z))
+    behind-24 : isListed (baseEntries t) bus ≡ true → refusal (slotOwn s t) ≡ refusal (25 when wrongSlot s t ∷ [])
+    behind-24 l = refusal-go queryNumber _ (rw l)
 
-    module _ (h : not found ≡ false) {pci : Bool} (f : pci ≡ among bus (each idOf (keep isPci (rows entrySize (part (p .buses) (p .ioapics) t))))) where
-      behind-24 : refusal (slotOwn s t) ≡ refusal (25 when wrongSlot s t ∷ [])
-      behind-24 = refusal-go queryNumber _ (rw (listed bus e) h)
+    wrong-is : wrongSlot s t ≡ (not pci || leb devices device || leb pins pin)
+    unfolding wrongSlot
+    wrong-is = rw (placed-pci t p placed bus, f)
 
-      wrong-is : wrongSlot s t ≡ (not pci || leb devices device || leb pins pin)
-      unfolding wrongSlot
-      wrong-is = rw (placed-pci t p placed bus, f)
+    -- No PCI bus: 24 where it is not listed, else 25.
+    module _ (h : not pci ≡ true) {found : Bool} (e : found ≡ among bus (each idOf (rows entrySize (part (p .buses) (p .ioapics) t)))) where
+      pub not-listed : found ≡ false → AnswersSlot s t room (Refused queryNumber) room
+      not-listed k = slot-refused (refusal-stop queryNumber _ (rw (listed bus e, k))) (λ z. omega (arith, z))
 
-      -- 25.
-      pub wrong-slot : (not pci || leb devices device || leb pins pin) ≡ true → AnswersSlot s t room (Refused 25) room
-      wrong-slot w = slot-refused (behind-24 ∙ refusal-stop 25 [] (wrong-is ∙ w)) (λ z. omega (arith, z))
+      pub not-pci : found ≡ true → AnswersSlot s t room (Refused 25) room
+      not-pci k = slot-refused (behind-24 (listed bus e ∙ k) ∙ refusal-stop 25 [] (wrong-is ∙ rw h)) (λ z. omega (arith, z))
 
-      pub right-slot : (not pci || leb devices device || leb pins pin) ≡ false
+    -- A PCI bus is listed: 25 by the device or the pin, or the answer.
+    module _ (h : not pci ≡ false) where
+      its-25 : refusal (slotOwn s t) ≡ refusal (25 when wrongSlot s t ∷ [])
+      its-25 =
+          let es = rows entrySize (part (p .buses) (p .ioapics) t) in
+          behind-24 (placed-listed t p placed bus ∙ among-kept bus isPci es (sym f ∙ not-false pci h))
+
+      pub wrong-slot : (leb devices device || leb pins pin) ≡ true → AnswersSlot s t room (Refused 25) room
+      wrong-slot w = slot-refused (its-25 ∙ refusal-stop 25 [] (wrong-is ∙ rw h w)) (λ z. omega (arith, z))
+
+      pub right-slot : (leb devices device || leb pins pin) ≡ false
           → {n : ℕ} {r : Lent} {u : List ℕ} → Gives (pairsOf ioSide (wired vectored bus (device * pins + pin) true) t) room n u → r ≡ meant n
           → AnswersSlot s t room r u
       right-slot w g m =
-          let z : refusal (slotOwn s t) ≡ 0 = behind-24 ∙ refusal-go 25 [] (wrong-is ∙ w) ∙ refusal-end in
-          let i = slot-inside (not pci) device pin w in
+          let z : refusal (slotOwn s t) ≡ 0 = its-25 ∙ refusal-go 25 [] (wrong-is ∙ rw h w) ∙ refusal-end in
+          let i = slot-inside device pin w in
           slot-answers t room s
           (own-told t (slotOwn s t) (slot-some s t) (slotRoutesOf s t) room a z (rw (slot-pairs bus device pin (i .0) (i .1) t) g) m)

@@ -8,9 +8,9 @@
 // All are one query over the side and what is compared of an entry's IRQ: the whole byte, or for a slot its low seven bits.
 // What is tested behind the table is each query's own. The IDs of the side's enabled APICs are gathered once, as a list for
 // those entries that name all and on a roll for those that name one: so the cost is that of the table and of the answer, and
-// not of their product. One pass over the interrupt entries counts the pairs, and a second one writes them where there are
-// some and they fit. What a side answers goes up as a number, and the enum is made at the top: an enum that is handed through
-// a call is copied there.
+// not of their product. One pass over the interrupt entries writes the pairs; only where the room may be too small for them
+// does one before it count them. What a side answers goes up as a number, and the enum is made at the top: an enum that is
+// handed through a call is copied there.
 use mps::Examined;
 use mps::Lent;
 use mps::Sections;
@@ -20,6 +20,7 @@ ghost use mathlib.Core.Bool.{false};
 ghost use Prim.Native.Nat.{_+_, _*_, _≤_};
 ghost use lib.ListN.{length, take, drop};
 ghost use lib.Seq.{sets};
+ghost use lib.Dec.{leb};
 ghost use Rattle.mps.specs.Words.{twice, joined};
 ghost use Rattle.mps.specs.Layout.{entrySize};
 ghost use Rattle.mps.specs.Rules.{ioSide, localSide};
@@ -96,7 +97,8 @@ fn behind_table(
     answered(of_side(t, p, local, itype, bus, irq, false, out))
 }
 
-// 24, 25 and on. The IRQ of a slot is its device and pin, packed, and bit 7 of an entry's is not compared.
+// 24, 25 and on. A PCI bus is a listed one, so that only another is looked for among all. The IRQ of a slot is its device and
+// pin, packed, and bit 7 of an entry's is not compared.
 fn slot_behind_table(t: &[u8], p: Sections, bus: u8, device: u8, pin: u8, out: &mut [u8]) -> Lent
     requires { ⌜ (tableRefusal (now t) ≡ 0) × (Placed (now t) p) ⌝ }
     ensures { λ r. ⌜ r ≡ slotRouted (slot bus device pin) (now (t .entry)) (now (out .entry)) ⌝ }
@@ -105,10 +107,13 @@ fn slot_behind_table(t: &[u8], p: Sections, bus: u8, device: u8, pin: u8, out: &
     let buses = p.buses;
     let ioapics = p.ioapics;
     let listed = &t[buses..ioapics];
-    if !buses::is_listed(listed, bus) {
+    if !buses::is_pci(listed, bus) {
+        if buses::is_listed(listed, bus) {
+            return Lent::Refused(25);
+        }
         return Lent::Refused(24);
     }
-    if !buses::is_pci(listed, bus) | (layout::DEVICES <= device) | (layout::PINS <= pin) {
+    if (layout::DEVICES <= device) | (layout::PINS <= pin) {
         return Lent::Refused(25);
     }
     let irq = device * layout::PINS + pin;
@@ -190,16 +195,10 @@ fn answer(
     let mut list = [0; 256];
     let n = gather(&mut roll, &mut list, targets, size);
     let ids = &list[0..n];
-    let pairs = count(entries, itype, bus, irq, low, ids, &roll);
-    // With no pairs to write the entries are not gone through again.
-    if pairs == 0 {
-        return 1;
-    }
-    if out.len() < pairs * layout::PAIR_SIZE {
+    if !has_room(out.len(), entries, itype, bus, irq, low, ids, &roll) {
         return 0;
     }
-    write(out, entries, itype, bus, irq, low, ids, &roll);
-    pairs + 1
+    write(out, entries, itype, bus, irq, low, ids, &roll) / layout::PAIR_SIZE + 1
 }
 
 // The enabled APICs, of entries of `size` bytes each: they are put on the roll, and their IDs stand in `ids` from its first
@@ -273,6 +272,27 @@ fn count(s: &[u8], itype: u8, bus: u8, irq: u8, low: bool, ids: &[u8], roll: &[u
     pairs
 }
 
+// Whether the pairs fit in a room of so many bytes. Where it has a place for every ID in every entry nothing is counted.
+fn has_room(
+    room: usize,
+    s: &[u8],
+    itype: u8,
+    bus: u8,
+    irq: u8,
+    low: bool,
+    ids: &[u8],
+    roll: &[u8; 256],
+) -> bool
+    requires { ⌜ (OnRoll takenBit (now roll) (now ids)) × (length (now ids) ≤ 256) × (length (now s) ≤ 65535) ⌝ }
+    ensures { λ r. ⌜ r ≡ leb (length (pairsIn (now (ids .entry)) (wired itype bus irq low) (rows entrySize (now (s .entry))))) room ⌝ }
+{
+    let most = s.len() / layout::ENTRY_SIZE * ids.len();
+    if most * layout::PAIR_SIZE <= room {
+        return true;
+    }
+    count(s, itype, bus, irq, low, ids, roll) * layout::PAIR_SIZE <= room
+}
+
 // One pair, of an interrupt entry and an ID.
 fn put_pair(out: &mut [u8], at: usize, entry: &[u8], id: u8)
     requires { ⌜ (length (now entry) ≡ entrySize) × (at + pairSize ≤ length (now out)) ⌝ }
@@ -316,7 +336,7 @@ fn put_named(out: &mut [u8], at: usize, entry: &[u8], ids: &[u8], roll: &[u8; 25
     at
 }
 
-// All pairs, from the room's first byte on.
+// All pairs, from the room's first byte on; answers the place behind them.
 fn write(
     out: &mut [u8],
     s: &[u8],
@@ -326,9 +346,10 @@ fn write(
     low: bool,
     ids: &[u8],
     roll: &[u8; 256],
-)
+) -> usize
     requires { ⌜ OnRoll takenBit (now roll) (now ids) ⌝ }
     requires { ⌜ length (pairsIn (now ids) (wired itype bus irq low) (rows entrySize (now s))) ≤ length (now out) ⌝ }
+    ensures { λ r. ⌜ r ≡ length (pairsIn (now (ids .entry)) (wired itype bus irq low) (rows entrySize (now (s .entry)))) ⌝ }
     ensures { λ _. ⌜ now (out .exit) ≡ sets (now (out .entry)) 0 (pairsIn (now (ids .entry)) (wired itype bus irq low) (rows entrySize (now (s .entry)))) ⌝ }
 {
     let mut place = 0;
@@ -339,4 +360,5 @@ fn write(
         }
         at += layout::ENTRY_SIZE;
     }
+    place
 }

@@ -1,4 +1,4 @@
--- The IDs are gathered in 256 places; the pairs are counted, and written where they fit.
+-- The IDs are gathered in 256 places; the pairs are written where they fit.
 use Prim.Native.Nat.{_-_, _≤_}
 use mathlib.Core.Path.{_≡_}
 use native.Mathlib.Omega.{arith}
@@ -6,7 +6,7 @@ use lib.ListN.{length, take, replicate}
 use borrow.Author.Needs.{needs}
 use Rattle.routes.specs.Pairs.{wired, enabledIn}
 use Rattle.roll.specs.Roll.{takenBit, OnRoll}
-use Rattle.routes.proofs.Answering.{ids-most, ids-inside, ids-read, ids-known, answer-none, answer-short, answer-room, answer-put}
+use Rattle.routes.proofs.Answering.{ids-most, ids-inside, ids-read, ids-known, answer-short, answer-room, answer-put}
 use Rattle.routes.proofs.answer.Statement.{statement}
 use Rattle.routes.proofs.answer.Tie as tie
 
@@ -35,8 +35,8 @@ part-ids-end c =
     let a = g .before .before .before .before .before .before .args in
     ids-inside (replicate 256 0) (enabledIn (a .size) (a .targets .now)) (most (g .before)) (g .gather .ensures .0) (g .gather .ensures .1 .1)
 
-count-requires : tie.Need-count-requires
-count-requires c κs =
+has-room-requires : tie.Need-has-room-requires
+has-room-requires c κs =
     let g = c .before .before .before in
     (known g .0, known g .1, g .before .before .before .before .before .before .pre .2)
 
@@ -44,34 +44,27 @@ returns : tie.Need-returns
 returns c =
     let g = c .before .before .before .before .before in
     let a = g .before .before .before .before .before .before .args in
-    answer-none (enabledIn (a .size) (a .targets .now)) (wired (a .itype) (a .bus) (a .irq) (a .low)) _ (a .out .now) (read g)
-    (c .before .count .ensures .0) (c .if1 .taken)
-
-returns-2 : tie.Need-returns-2
-returns-2 c =
-    let g = c .before .before .before .before .before .before in
-    let a = g .before .before .before .before .before .before .args in
     answer-short (enabledIn (a .size) (a .targets .now)) (wired (a .itype) (a .bus) (a .irq) (a .low)) _ (a .out .now) (read g)
-    (c .before .before .count .ensures .0) (c .if2 .taken)
+    (c .before .has-room .ensures) (c .if1 .taken)
 
 write-requires : tie.Need-write-requires
 write-requires c κs =
-    let n = c .before .before .before .before in
-    let g = n .before .before .before .before in
+    let h = c .before .before .before in
+    let g = h .before .before .before .before in
     let a = g .before .before .before .before .before .before .args in (
       known g .0,
       answer-room (enabledIn (a .size) (a .targets .now)) (wired (a .itype) (a .bus) (a .irq) (a .low)) _ (a .out .now) (read g)
-          (n .count .ensures .0) (c .before .before .if2 .left),
+          (h .has-room .ensures) (c .before .before .if1 .left),
     )
 
-returns-3 : tie.Need-returns-3
-returns-3 c =
+returns-2 : tie.Need-returns-2
+returns-2 c =
     let w = c .before .before in
-    let n = w .before .before .before .before .before in
-    let g = n .before .before .before .before in
+    let h = w .before .before .before .before in
+    let g = h .before .before .before .before in
     let a = g .before .before .before .before .before .before .args in
     answer-put (enabledIn (a .size) (a .targets .now)) (wired (a .itype) (a .bus) (a .irq) (a .low)) _ (a .out .now) (read g)
-    (n .count .ensures .0) (w .before .before .before .if2 .left) (w .write .ensures)
+    (h .has-room .ensures) (w .before .before .before .if1 .left) (w .write .ensures .0) (w .write .ensures .1)
 
 pub answer-spec : {M : Type 1} → statement M
 answer-spec =
@@ -80,10 +73,8 @@ answer-spec =
     gather-requires
     (λ c. search needs) (λ c. search needs)
     part-ids-end
-    count-requires
+    has-room-requires
     returns
-    (λ c. search needs)
-    returns-2
     write-requires
     (λ c. search needs) (λ c. search needs)
-    returns-3)
+    returns-2)

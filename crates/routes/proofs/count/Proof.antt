@@ -25,7 +25,7 @@ add-pairs : tie.Need-add-pairs Inv-loop μ-loop
 add-pairs c =
     let a = c .before .before .before .before .before .before .before .before .args in
     let l = c .before .before .before .before .before .loop in
-    let n = named-most (a .ids .now) (getD (a .s .now) (l .at + 6) 0) (omega arith) in
+    let n = named-most (a .ids .now) (getD (a .s .now) (l .at + 6) 0) in
     omega (arith, n)
 
 loop-again : tie.Need-loop-again Inv-loop μ-loop

@@ -48,7 +48,9 @@ returns : tie.Need-returns Inv-loop μ-loop
 returns c =
     let l = c .before in
     let a = l .before .before .before .before .args in
-    writes-done (l .loop .inv .0) (pairs-done (a .ids .now) (wired (a .itype) (a .bus) (a .irq) (a .low)) (a .s .now) (l .loop .at) (omega arith) (omega arith)) .1
+    let none = pairs-done (a .ids .now) (wired (a .itype) (a .bus) (a .irq) (a .low)) (a .s .now) (l .loop .at) (omega arith) (omega arith) in
+    let done = writes-done (l .loop .inv .0) none in
+    (omega (arith, done .0), done .1)
 
 pub write-spec : {M : Type 1} → statement M
 write-spec =
