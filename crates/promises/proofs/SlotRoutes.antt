@@ -21,14 +21,13 @@ use Rattle.laws.proofs.Tests.{whether}
 use Rattle.laws.proofs.Lists.{any-none, keep-agree, keep-each}
 use Rattle.laws.proofs.Joined.{joined-same, joined-each}
 use Rattle.laws.proofs.Small.{Bytes, small-at, small-base}
-use Rattle.routes.specs.Pairs.{wired}
-use Rattle.routes.proofs.Laws.{slot-test}
+use Rattle.routes.proofs.Laws.{slot-low}
 use Rattle.promises.specs.Slots.{InRange, irqOf, asRoute, lowSeven, lowAsked, sevenSet, cleared}
 
 module _ (s : Slot) (h : InRange s) where
   wired-low : (e : Entry) → wiredFrom s e ≡ lowAsked (s .bus) (irqOf s) e
-  unfolding lowAsked wired
-  wired-low e = sym (slot-test (s .bus) (s .device) (s .pin) (h .device-low) (h .pin-low) e)
+  unfolding lowAsked
+  wired-low e = sym (slot-low (s .bus) (s .device) (s .pin) (h .device-low) (h .pin-low) e)
 
   -- "bit 7 ignored": the pairs are those of the type 3 entries of type INT whose source is the bus and, in bits 0 to 6, the
   -- slot's device and pin.

@@ -12,7 +12,7 @@ use lib.Dec.{leb}
 use borrow.Author.Tests.{lt-ltb, le-ltb, ltb-true, ltb-false, le-leb, leb-true, leb-false, not-true, not-false}
 use Rattle.mps.specs.Words.{keep, twice, part}
 use Rattle.mps.specs.Refusals.{roomNumber}
-use Rattle.mps.specs.Layout.{Entry, ofType, ioInterruptType, localInterruptType, headerSize, processorSize, entrySize, enabled, destination, baseLength, baseEntryLength, basePart, baseEntries}
+use Rattle.mps.specs.Layout.{Entry, ofType, ioInterruptType, localInterruptType, headerSize, processorSize, entrySize, enabled, destination, baseEntries}
 use Rattle.mps.specs.Sections.{rows}
 use Rattle.mps.specs.Judge.{tableRefusal}
 use Rattle.mps.specs.Rooms.{tooSmall, fitLeft}
@@ -23,13 +23,11 @@ use Rattle.laws.proofs.Tests.{whether}
 use Rattle.laws.proofs.Small.{Bytes, small-keep, small-rows, below-each}
 use Rattle.laws.proofs.Pigeons.{bytes-most}
 use Rattle.laws.proofs.Stores.{sets-at-start}
-use Rattle.laws.proofs.Parts.{length-part}
 use Rattle.laws.proofs.Lent.{fit-put, fit-short}
 use Rattle.laws.proofs.Rows.{rows-count}
 use Rattle.laws.proofs.Lists.{keep-most}
-use Rattle.laws.proofs.Cut.{cut-most}
 use Rattle.judge.specs.Placed.{Placed}
-use Rattle.accepted.proofs.Sound.{sound}
+use Rattle.accepted.proofs.Sound.{sound, entries-least}
 use Rattle.routes.specs.Pairs.{sideOf, pairsOf, enabledIn, named, pairsFor, pairsIn, countIn, told, meant}
 use Rattle.roll.specs.Roll.{takenBit, enrolled, OnRoll}
 use Rattle.roll.proofs.Laws.{enrolled-on}
@@ -127,20 +125,10 @@ module _ (ids : List ℕ) (p : Entry → Bool) (es : List Entry) (room : List �
 
 -- ---- The sides of a table
 
--- The interrupt entries of an accepted table are few: one entry takes a byte at least.
+-- An entry has eight bytes at least, and the base part has its limit.
 entries-few : (t : List ℕ) → tableRefusal t ≡ 0 → (n : ℕ) (s : List ℕ) → keep (ofType n) (baseEntries t) ≡ rows entrySize s → length s ≤ 65535
-unfolding baseEntries
 entries-few t a n s e =
-    let f = sound t a in
-    omega (
-      arith,
-      rows-count s,
-      ap length e,
-      keep-most (ofType n) (baseEntries t),
-      cut-most baseEntryLength 0 (basePart t),
-      length-part headerSize (baseLength t) t (f .inside),
-      f .most,
-    )
+    omega (arith, rows-count s, ap length e, keep-most (ofType n) (baseEntries t), entries-least t a, sound t a .most)
 
 module _ (t : List ℕ) (p : Sections) (a : tableRefusal t ≡ 0) (placed : Placed t p) where
   pub io-ready :

@@ -10,7 +10,7 @@ use lib.Dec.{eqb}
 use borrow.Author.Tests.{eq-eqb, eqb-true}
 use Rattle.mps.specs.Words.{keep, each, joined, among, only, twice, part}
 use Rattle.mps.specs.Sums.{total}
-use Rattle.mps.specs.Layout.{Entry, ofType, ioApicType, ioInterruptType, headerSize, processorSize, entrySize, idOf, enabled, interruptType, vectored, sourceIrq, pins, devices, destination, everyone, baseEntries, busSlots}
+use Rattle.mps.specs.Layout.{Entry, ofType, ioApicType, ioInterruptType, headerSize, processorSize, entrySize, idOf, enabled, interruptType, vectored, sourceBus, sourceIrq, pins, devices, destination, everyone, baseEntries, busSlots}
 use Rattle.mps.specs.Rules.{ioSide, localSide, Side, enabledOf, enabledIds}
 use Rattle.mps.specs.Sections.{rows}
 use Rattle.mps.specs.Judge.{tableRefusal}
@@ -19,7 +19,7 @@ use Rattle.mps.specs.Slots.{slot, namesSlot, wiredFrom, slotRoutes, slotRoutesO
 use Rattle.mps.specs.declared.Sections.{Sections}
 use Rattle.laws.proofs.Tests.{whether, same-test, and-parts, or-parts}
 use Rattle.laws.proofs.Lists.{keep-keep, keep-most}
-use Rattle.laws.proofs.Joined.{joined-same, joined-most}
+use Rattle.laws.proofs.Joined.{joined-same, joined-most, joined-length}
 use Rattle.judge.specs.Placed.{Placed}
 use Rattle.accepted.proofs.Obeyed.{obeyed}
 use Rattle.routes.specs.Pairs.{wired, pairsOf, enabledIn, named, pairsFor, pairsIn, countIn}
@@ -54,9 +54,8 @@ named-ids e apics d =
 -- ---- Counts
 
 pub length-pairs : (e : Entry) (ids : List ℕ) → length (joined (pair e) ids) ≡ length ids * pairSize
-unfolding joined pair
-length-pairs e [] = refl
-length-pairs e (x ∷ ids) = omega (arith, length-pairs e ids)
+unfolding pair
+length-pairs e = joined-length (pair e) pairSize (λ id. refl)
 
 -- How many APICs each of some interrupt entries names, and the pairs of all of them.
 counts : List ℕ → List Entry → List ℕ
@@ -135,16 +134,23 @@ module _ (bus device pin : ℕ) (d : device < devices) (p : pin < pins) where
       let f = eqb-true (x % pins) pin (s .1) in
       eq-eqb (x % busSlots) (device * pins + pin) (omega (arith, e, f, d, p)))
 
-  pub slot-test : (e : Entry)
-      → (ofType ioInterruptType e && wired vectored bus (device * pins + pin) true e) ≡ wiredFrom (slot bus device pin) e
-  unfolding wired wiredFrom namesSlot
-  slot-test e = rw (packed (sourceIrq e)) (turned (ofType ioInterruptType e) (eqb (interruptType e) vectored) _ _ _)
+  -- What a slot asks of an entry, by the IRQ without its bit 7.
+  pub slot-low : (e : Entry)
+      → (ofType ioInterruptType e && (eqb (interruptType e) vectored && eqb (sourceBus e) bus && eqb (sourceIrq e % busSlots) (device * pins + pin)))
+      ≡ wiredFrom (slot bus device pin) e
+  unfolding wiredFrom namesSlot
+  slot-low e = rw (packed (sourceIrq e)) (turned (ofType ioInterruptType e) (eqb (interruptType e) vectored) _ _ _)
     where
       turned : (a b c f g : Bool) → (a && (b && c && (f && g))) ≡ (b && (a && c && f && g))
       turned true true c f g = sym (and-assoc c f g)
       turned true false c f g = refl
       turned false true c f g = refl
       turned false false c f g = refl
+
+  slot-test : (e : Entry)
+      → (ofType ioInterruptType e && wired vectored bus (device * pins + pin) true e) ≡ wiredFrom (slot bus device pin) e
+  unfolding wired
+  slot-test = slot-low
 
   pub slot-pairs : (t : List ℕ) → slotRoutesOf (slot bus device pin) t ≡ pairsOf ioSide (wired vectored bus (device * pins + pin) true) t
   unfolding slotRoutesOf slotRoutes pairsOf
