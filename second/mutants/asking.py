@@ -12,7 +12,7 @@ ANSWER = "    return counted(count);\n}\n\nstatic uint64_t routes("
 ROUTED = "    return routes_of(&t, side, from, room, size);\n"
 TO_ALL = "            p = put_to_all(p, to, input);\n"
 HIT = "        if ((get64(e) & mask) != want || (e[6] != ALL && !in(&to->set, e[6])))\n"
-KEEP = "        put_pair(h->to + 2 * n++, e[6], e[7]);\n"
+KEEP = "        put_pair(h->pairs + 2 * n++, e[6], e[7]);\n"
 ON_LIST = "    bool touched = q->kind == 0 && q->address < 65536;\n"
 COVERS = "e[3] == q->kind && q->address - get64(e + 4) < get64(e + 12)"
 JUDGED = "    /* \"Queries test the table, then 24, then 19\" */\n    if ((refusal = plain_judge_walk(bytes, n, &t)) != 0)\n        return refused(refusal);\n"
@@ -26,10 +26,14 @@ SLOT_ROUTED = "    return routes_of(&t, &io_side, &from, room, size);\n"
 
 # Of slots.c.
 MARK = "    s->on[e[4]].word[turn][e[5] >> 6 & 1] |= (uint64_t)1 << (e[5] & 63);\n"
-PUT_HALVES = "        p = put_half(p, s, bus, 0);\n        p = put_half(p, s, bus, 1);\n"
+PUT_HALVES = "    p = put_half(p, s, bus, 0);\n    return put_half(p, s, bus, 1);\n"
+PUT_BUSES = """    for (unsigned i = 0; i < 4; i++)
+        for (uint64_t left = s->pci.word[i]; left != 0; left &= left - 1)
+            p = put_bus("""
 SLOTS_JUDGED = "    if ((refusal = plain_judge_walk(bytes, n, &t)) != 0)\n        return refused(refusal);\n"
-COUNTED_SLOTS = "(most = count_slots(&s)) > size / 3"
-SLOTS_TEST = "    if (most > size / 3 && (most = count_slots(&s)) > size / 3)\n        return refused(19);\n"
+COUNT_SLOTS = "    if (most > size / 3)\n        most = count_slots(&s);\n"
+COUNTED_SLOTS = "    if (most > size / 3)\n        return refused(19);\n"
+SLOTS_TEST = COUNT_SLOTS + COUNTED_SLOTS
 PUT_ALL = "    return counted(most == 0 ? 0 : put_slots(&s, room));\n"
 PAST = "    most = most == 0 ? 0 : put_slots(&s, room);\n{}    return counted(most);\n"
 
@@ -86,9 +90,9 @@ QUERY = [
  (0, "IRQ for input", KEEP, KEEP.replace("e[7]", "e[5]")),
  (0, "255 for input, 255", TO_ALL, TO_ALL.replace("input", "id")),
  (0, "255 by fours only", "    for (; i < to->n; i++)\n        put_pair(p + 2 * i, to->pairs[2 * i], input);\n", ""),
- (0, "pairs by fours only", "    for (; i < h->n; i++)\n        put_pair(p + 2 * i, h->to[2 * i], h->to[2 * i + 1]);\n", ""),
- (0, "three of four pairs", "memcpy(p + 2 * i, h->to + 2 * i, 8);", "memcpy(p + 2 * i, h->to + 2 * i, 6);"),
- (0, "four pairs over one too few", "h->n - i >= 4;", "h->n - i >= 3;"),
+ (0, "pairs without the last", "memcpy(p, h->pairs, 2 * h->n);", "memcpy(p, h->pairs, 2 * h->n - 2);"),
+ (0, "pairs without the last input", "memcpy(p, h->pairs, 2 * h->n);", "memcpy(p, h->pairs, 2 * h->n - 1);"),
+ (0, "pairs to an even number", "memcpy(p, h->pairs, 2 * h->n);", "memcpy(p, h->pairs, (2 * h->n + 2) / 4 * 4);"),
  (0, "hits with one to all put as pairs", "    if (h->to_all == 0) {\n", "    if (h->to_all < 2) {\n"),
  (0, "fours of three", "0, 1, 0, 1 };", "0, 1, 0, 0 };"),
  (0, "type by its set bits", "mask = place(255, 255, from->bits);", "mask = place(from->type, 255, from->bits);"),
@@ -249,9 +253,9 @@ SLOTS = [
  (19, "room counts pairs", COUNTED_SLOTS, COUNTED_SLOTS.replace("size / 3", "size / 2")),
  (19, "one slot more allowed", COUNTED_SLOTS, COUNTED_SLOTS.replace("size / 3", "size / 3 + 1")),
  (19, "no test", SLOTS_TEST, ""),
- (19, "interrupts counted", "most > size / 3 && " + COUNTED_SLOTS, "most > size / 3"),
- (19, "interrupts in 8 bits", "most > size / 3 &&", "(uint8_t)most > size / 3 &&"),
- (19, "slots in 8 bits", COUNTED_SLOTS, COUNTED_SLOTS.replace("(most = count_slots(&s))", "(uint8_t)(most = count_slots(&s))")),
+ (19, "interrupts counted", COUNT_SLOTS, ""),
+ (19, "interrupts in 8 bits", SLOTS_TEST, "    if ((uint8_t)most > size / 3) {\n        most = count_slots(&s);\n        if (most > size / 3)\n            return refused(19);\n    }\n"),
+ (19, "slots in 8 bits", "        most = count_slots(&s);\n", "        most = (uint8_t)count_slots(&s);\n"),
  (19, "empty room refused", SLOTS_TEST, "    if (size == 0)\n        return refused(19);\n" + SLOTS_TEST),
  (19, "count given too", SLOTS_TEST, SLOTS_TEST.replace("refused(19)", "refused(19) | counted(most)")),
  (19, "first slot written", SLOTS_TEST, SLOTS_TEST.replace("        return refused(19);\n", "    {\n        if (size > 0)\n            room[0] ^= 1;\n        return refused(19);\n    }\n")),
@@ -268,7 +272,7 @@ SLOTS = [
  (0, "first bus left out", "        s->pci.word[e[1] >> 6] |=", "        if (at > t->base[BUS])\n            s->pci.word[e[1] >> 6] |="),
  (0, "bus 255 left out", "        s->pci.word[e[1] >> 6] |=", "        if (e[1] != 255)\n            s->pci.word[e[1] >> 6] |="),
  (0, "bus 0 left out", "        s->pci.word[e[1] >> 6] |=", "        if (e[1] != 0)\n            s->pci.word[e[1] >> 6] |="),
- (0, "buses below 128", "i < 4; i++)", "i < 2; i++)"),
+ (0, "buses below 128", PUT_BUSES, PUT_BUSES.replace("i < 4", "i < 2")),
  (0, "INT alone", MARK, "    if (e[1] != INT)\n        return;\n" + MARK),
  (0, "ExtINT left out", MARK, "    if (e[1] == 3)\n        return;\n" + MARK),
  (0, "destination 255 left out", MARK, "    if (e[6] == ALL)\n        return;\n" + MARK),
@@ -286,9 +290,9 @@ SLOTS = [
  (0, "in both sets only", "word[0][upper] | s->on", "word[0][upper] & s->on"),
  (0, "marks of the table before", "    gather_buses(&t, &s);\n", "    static struct slots before;\n    gather_buses(&t, &s);\n    s.on[t.bytes[t.base[BUS] + 1]] = before;\n    before.word[0][0] = 1;\n"),
  (0, "upper half as the lower", " + 64 * (unsigned)upper", ""),
- (0, "upper half first", PUT_HALVES, "        p = put_half(p, s, bus, 1);\n        p = put_half(p, s, bus, 0);\n"),
- (0, "upper half left out", "        p = put_half(p, s, bus, 1);\n", ""),
- (0, "buses from 192 on first", "i = 0; i < 4; i++)", "k = 0, i = 3; k < 4; k++, i = 3 - k)"),
+ (0, "upper half first", PUT_HALVES, "    p = put_half(p, s, bus, 1);\n    return put_half(p, s, bus, 0);\n"),
+ (0, "upper half left out", "    return put_half(p, s, bus, 1);\n", "    return p;\n"),
+ (0, "buses from 192 on first", PUT_BUSES, PUT_BUSES.replace("i = 0; i < 4; i++", "i = 3; i < 4; i--")),
  (0, "first slot of a bus alone", "left != 0; left &= left - 1) {", "left != 0; left = 0) {"),
  (0, "pin before device", "        p[1] = (uint8_t)(slot >> 2);\n        p[2] = slot & 3;\n", "        p[2] = (uint8_t)(slot >> 2);\n        p[1] = slot & 3;\n"),
  (0, "bus last", "        p[0] = (uint8_t)bus;\n        p[1] = (uint8_t)(slot >> 2);\n        p[2] = slot & 3;\n", "        p[2] = (uint8_t)bus;\n        p[0] = (uint8_t)(slot >> 2);\n        p[1] = slot & 3;\n"),

@@ -74,9 +74,9 @@ static void gather_targets(const struct table *t, const struct side *side,
     }
 }
 
-/* The entries of a source that reach an enabled APIC. */
+/* The entries of a source, but for those to an ID that no enabled APIC has. */
 struct hits {
-    uint8_t to[(PART_MAX - HEADER_SIZE) / 8 * 2];   /* (destination, input) */
+    uint8_t pairs[(PART_MAX - HEADER_SIZE) / 8 * 2];   /* (destination, input) */
     size_t n;
     size_t to_all;            /* how many of them go to 255 */
 };
@@ -102,7 +102,7 @@ static size_t gather_hits(const struct table *t, const struct side *side,
 
         if ((get64(e) & mask) != want || (e[6] != ALL && !in(&to->set, e[6])))
             continue;
-        put_pair(h->to + 2 * n++, e[6], e[7]);
+        put_pair(h->pairs + 2 * n++, e[6], e[7]);
         to_all += e[6] == ALL;
     }
     h->n = n;
@@ -132,25 +132,15 @@ static uint8_t *put_to_all(uint8_t *p, const struct targets *to, uint8_t input)
     return p + 2 * to->n;
 }
 
-/* Where none goes to all, the hits are the pairs: four at once. */
-static void put_hits(const struct hits *h, uint8_t *p)
-{
-    size_t i = 0;
-
-    for (; h->n - i >= 4; i += 4)
-        memcpy(p + 2 * i, h->to + 2 * i, 8);
-    for (; i < h->n; i++)
-        put_pair(p + 2 * i, h->to[2 * i], h->to[2 * i + 1]);
-}
-
 static void put_pairs(const struct hits *h, const struct targets *to, uint8_t *p)
 {
+    /* Where none goes to all, the hits are what is asked for. */
     if (h->to_all == 0) {
-        put_hits(h, p);
+        memcpy(p, h->pairs, 2 * h->n);
         return;
     }
     for (size_t i = 0; i < h->n; i++) {
-        uint8_t id = h->to[2 * i], input = h->to[2 * i + 1];
+        uint8_t id = h->pairs[2 * i], input = h->pairs[2 * i + 1];
 
         if (id == ALL)
             p = put_to_all(p, to, input);

@@ -62,12 +62,10 @@ static inline unsigned lowest(uint64_t word)
     return (unsigned)__builtin_ctzll(word);
 }
 
-#define EACH_PCI(s, bus) \
-    for (unsigned bus = 0, i = 0; i < 4; i++) \
-        for (uint64_t left = (s)->pci.word[i]; \
-             left != 0 && (bus = 64 * i + lowest(left), true); left &= left - 1)
-
-/* How many bits are set: of each two, of each four, of each eight, of all. */
+/*
+ * How many bits are set.  Not the compiler's builtin: without the machine's own
+ * instruction, which not every x86-64 has, that is a call with gcc.
+ */
 static unsigned bits_in(uint64_t word)
 {
     word -= word >> 1 & UINT64_C(0x5555555555555555);
@@ -77,12 +75,18 @@ static unsigned bits_in(uint64_t word)
     return (unsigned)(word * UINT64_C(0x0101010101010101) >> 56);
 }
 
+static inline unsigned slots_on(const struct named *s, unsigned bus)
+{
+    return bits_in(half(s, bus, 0)) + bits_in(half(s, bus, 1));
+}
+
 static size_t count_slots(const struct named *s)
 {
     size_t count = 0;
 
-    EACH_PCI(s, bus)
-        count += bits_in(half(s, bus, 0)) + bits_in(half(s, bus, 1));
+    for (unsigned i = 0; i < 4; i++)
+        for (uint64_t left = s->pci.word[i]; left != 0; left &= left - 1)
+            count += slots_on(s, 64 * i + lowest(left));
     return count;
 }
 
@@ -100,15 +104,20 @@ static inline uint8_t *put_half(uint8_t *p, const struct named *s, unsigned bus,
     return p;
 }
 
+static inline uint8_t *put_bus(uint8_t *p, const struct named *s, unsigned bus)
+{
+    p = put_half(p, s, bus, 0);
+    return put_half(p, s, bus, 1);
+}
+
 /* Answers how many it put. */
 static size_t put_slots(const struct named *s, uint8_t *room)
 {
     uint8_t *p = room;
 
-    EACH_PCI(s, bus) {
-        p = put_half(p, s, bus, 0);
-        p = put_half(p, s, bus, 1);
-    }
+    for (unsigned i = 0; i < 4; i++)
+        for (uint64_t left = s->pci.word[i]; left != 0; left &= left - 1)
+            p = put_bus(p, s, 64 * i + lowest(left));
     return (size_t)(p - room) / 3;
 }
 
@@ -124,9 +133,11 @@ uint64_t plain_slots(const uint8_t *bytes, size_t n, uint8_t *room, size_t size)
     gather_buses(&t, &s);
     gather_slots(&t, &s);
 
-    /* 19: there are no more slots than interrupts, for which most rooms have room */
+    /* 19: no more slots than interrupts, so a room for as many needs no count */
     size_t most = (t.base[IO_INT + 1] - t.base[IO_INT]) / 8;
-    if (most > size / 3 && (most = count_slots(&s)) > size / 3)
+    if (most > size / 3)
+        most = count_slots(&s);
+    if (most > size / 3)
         return refused(19);
 
     return counted(most == 0 ? 0 : put_slots(&s, room));
