@@ -263,7 +263,7 @@ fn count(s: &[u8], itype: u8, bus: u8, irq: u8, low: bool, ids: &[u8], roll: &[u
 {
     let mut pairs = 0;
     let mut at = 0;
-    while layout::ENTRY_SIZE <= s.len() - at {
+    while at + layout::ENTRY_SIZE <= s.len() {
         if asked(s, at, itype, bus, irq, low) {
             pairs += names(ids, roll, s[at + layout::DESTINATION]);
         }
@@ -354,7 +354,7 @@ fn write(
 {
     let mut place = 0;
     let mut at = 0;
-    while layout::ENTRY_SIZE <= s.len() - at {
+    while at + layout::ENTRY_SIZE <= s.len() {
         if asked(s, at, itype, bus, irq, low) {
             place = put_named(out, place, &s[at..at + layout::ENTRY_SIZE], ids, roll);
         }
