@@ -337,6 +337,7 @@ fn put_named(out: &mut [u8], at: usize, entry: &[u8], ids: &[u8], roll: &[u8; 25
 }
 
 // All pairs, from the room's first byte on; answers the place behind them.
+// The end is compared with the place behind an entry, which is the next one's: what is left would be taken off in each turn.
 fn write(
     out: &mut [u8],
     s: &[u8],
