@@ -1,12 +1,15 @@
 -- The ways out of the listing: what the code has found there, and the answer. Assumes nothing.
-use Prim.Native.Nat.{ℕ, _*_, _/_, _≤_, _<_}
+use Prim.Native.Nat.{ℕ, _*_, _/_, _≤_}
 use mathlib.Core.Path.{_≡_, refl, sym, ap, _∙_}
-use mathlib.Core.Bool.{false}
+use mathlib.Core.Bool.{Bool, true, false, not, _||_, or-false}
 use mathlib.Core.List.{List}
 use native.Mathlib.Omega.{arith}
+use lib.Dec.{leb}
 use lib.ListN.{length}
 use lib.Seq.{sets}
-use Rattle.mps.specs.Words.{among, each, joined}
+use borrow.Author.Tests.{leb-true, leb-false, not-true, not-false}
+use Rattle.mps.specs.Words.{among, each, keep, joined, below}
+use Rattle.mps.specs.Layout.{Entry, sourceBus, sourceIrq}
 use Rattle.mps.specs.Refusals.{roomNumber}
 use Rattle.mps.specs.Judge.{tableRules, tableRefusal, examined}
 use Rattle.mps.specs.Rooms.{tooSmall, fitted, fitLeft}
@@ -15,10 +18,14 @@ use Rattle.mps.specs.declared.Examined.{Examined}
 use Rattle.mps.specs.declared.Examined.the-variants.{Refused as Examined·Refused}
 use Rattle.mps.specs.declared.Lent.{Lent}
 use Rattle.mps.specs.declared.Lent.the-variants.{Count, Refused}
+use Rattle.laws.proofs.Lists.{length-each, keep-most}
+use Rattle.laws.proofs.Rising.{keep-rising}
 use Rattle.laws.proofs.Refusals.{number}
 use Rattle.laws.proofs.Lent.{lent-early, left-kept, lent-refused, fit-put, fit-short, fit-late}
 use Rattle.judge.proofs.Laws.{refused-number, refused-some}
-use Rattle.slots.specs.Sets.{slotBytes, slotsIn}
+use Rattle.roll.specs.Roll.{busBit, marked}
+use Rattle.slots.specs.Sets.{slotsMost, slotNumber, namedOn, listedOn, slotBytes, hasSlot, slotsIn}
+use Rattle.slots.proofs.Sets.{among-few}
 use Rattle.slots.proofs.Writing.{length-slots}
 
 -- What answers it, and what is left in the room.
@@ -37,21 +44,53 @@ examined-refused t room {found} {n} e k =
     let early = lent-early (tableRules t) (rules-some t) (tooSmall (length (slotsOf t)) room) (sym (refused-number t e k)) z in
     (rw early (lent-refused n _ z), rw early (sym (left-kept n _ room z)))
 
--- An accepted one's slots are those of a set, of which there are n.
-module _ (t room words : List ℕ) (n : ℕ) (a : tableRefusal t ≡ 0) (is : slotsOf t ≡ joined slotBytes (slotsIn words)) (all : length (slotsIn words) ≡ n) where
-  total : length (slotsOf t) ≡ n * slotSize
-  total = ap length is ∙ length-slots (slotsIn words) ∙ ap (λ (m : ℕ). m * slotSize) all
+-- An accepted one's answer goes into the room as any does.
+pub listed-late :
+    (t room : List ℕ) {answer : List ℕ} → tableRefusal t ≡ 0 → slotsOf t ≡ answer
+    → {r : Lent} {u : List ℕ} → (r ≡ fitted answer (length answer / slotSize) room) × (u ≡ fitLeft answer room) → Answers t room r u
+unfolding slotsListed slotsLeft slotsRefusal tableRefusal fitted fitLeft
+listed-late t room a is e =
+    let k = fit-late (tableRules t) (rules-some t) (slotsOf t) room a in
+    (rw (k, is) (e .0), rw (k, is) (e .1))
 
-  late : (fitted (slotsOf t) (length (slotsOf t) / slotSize) room ≡ slotsListed t room) × (fitLeft (slotsOf t) room ≡ slotsLeft t room)
-  unfolding slotsListed slotsLeft slotsRefusal tableRefusal fitted fitLeft
-  late = let k = fit-late (tableRules t) (rules-some t) (slotsOf t) room a in (rw k, rw k)
+-- ---- The slots of a set
 
-  pub listed-short : length room < n * slotSize → Answers t room (Refused roomNumber) room
-  listed-short h =
-      let k = fit-short (slotsOf t) (length (slotsOf t) / slotSize) room (omega (arith, h, total)) in
-      (k .0 ∙ late .0, k .1 ∙ late .1)
+module _ (roll : List ℕ) (es : List Entry) (empty words : List ℕ) (none : (n : ℕ) → hasSlot empty n ≡ false)
+    (noted : (n : ℕ) → hasSlot words n ≡ (among n (namedOn roll es) || hasSlot empty n)) where
+  in-set : keep (λ (n : ℕ). among n (namedOn roll es)) (below slotsMost) ≡ slotsIn words
+  unfolding slotsIn
+  in-set = keep-rising _ _ slotsMost 0 (λ n a h. sym (noted n ∙ rw (none n) (or-false (among n (namedOn roll es)))))
 
-  pub listed-put : n * slotSize ≤ length room → {u : List ℕ} → u ≡ sets room 0 (joined slotBytes (slotsIn words)) → Answers t room (Count n) u
-  listed-put h {u} e =
-      let k = fit-put (slotsOf t) (length (slotsOf t) / slotSize) room {n = n} {u = u} (omega (arith, total)) (omega (arith, h, total)) (rw is e) in
-      (k .0 ∙ late .0, k .1 ∙ late .1)
+  -- No more than entries.
+  pub set-few : length (slotsIn words) ≤ length es
+  unfolding namedOn
+  set-few =
+      omega (
+        arith,
+        ap length in-set,
+        among-few (namedOn roll es) slotsMost,
+        length-each (λ (e : Entry). slotNumber (sourceBus e) (sourceIrq e)) (keep (λ (e : Entry). marked busBit roll (sourceBus e)) es),
+        keep-most (λ (e : Entry). marked busBit roll (sourceBus e)) es,
+      )
+
+  abbrev answer : List ℕ
+  answer = listedOn roll es
+
+  is : answer ≡ joined slotBytes (slotsIn words)
+  unfolding listedOn
+  is = ap (joined slotBytes) in-set
+
+  total : length answer ≡ length (slotsIn words) * 3
+  total = ap length is ∙ length-slots (slotsIn words)
+
+  module _ (room : List ℕ) {r : Bool} (told : r ≡ leb (length (slotsIn words)) (length room / 3)) where
+    pub set-short : not r ≡ true → (Refused roomNumber ≡ fitted answer (length answer / slotSize) room) × (room ≡ fitLeft answer room)
+    set-short f = fit-short answer (length answer / slotSize) room (omega (arith, total, leb-false (length (slotsIn words)) (length room / 3) (sym told ∙ not-true r f)))
+
+    pub set-fits : not r ≡ false → length (slotsIn words) * 3 ≤ length room
+    set-fits t = omega (arith, leb-true (length (slotsIn words)) (length room / 3) (sym told ∙ not-false r t))
+
+    pub set-put :
+        not r ≡ false → {q : ℕ} {u : List ℕ} → q ≡ length (joined slotBytes (slotsIn words)) → u ≡ sets room 0 (joined slotBytes (slotsIn words))
+        → (Count (q / slotSize) ≡ fitted answer (length answer / slotSize) room) × (u ≡ fitLeft answer room)
+    set-put t e g = fit-put answer (length answer / slotSize) room (omega (arith, e, ap length is)) (omega (arith, total, set-fits t)) (rw is g)

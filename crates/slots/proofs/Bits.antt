@@ -1,14 +1,14 @@
 -- The bits of a word that are set, from the lowest on. Assumes nothing.
-use Prim.Native.Nat.{ℕ, zero, suc, _+_, _-_, _/_, _%_, _^_, _≤_, _<_}
-use mathlib.Core.Path.{_≡_, refl, _∙_}
+use Prim.Native.Nat.{ℕ, zero, suc, _+_, _-_, _*_, _/_, _%_, _^_, _≤_, _<_}
+use mathlib.Core.Path.{_≡_, refl, sym, ap, _∙_}
 use mathlib.Core.Bool.{Bool}
 use mathlib.Core.List.{[], _∷_}
 use native.Mathlib.Omega.{arith}
-use native.Mathlib.Nat.{pow-suc, pow-succ', div-one, div-div-eq-div-mul, add-zero, add-suc, suc-add}
-use native.Mathlib.Numerals.{add-one}
-use lib.Count.{trailingZeros}
+use native.Mathlib.Nat.{pow-suc, div-one, add-zero, add-suc, suc-add, min-zero, zero-min}
+use lib.Bits.{bitAnd, and-step, and-self}
+use lib.Count.{trailingZeros, ones, ones-step}
 use lib.Dec.{eqb}
-use lib.Pow.{shr-le}
+use lib.ListN.{length}
 use borrow.Author.Tests.{eqb-true, eqb-false}
 use Rattle.mps.specs.Words.{bit, keep, rising}
 use Rattle.laws.proofs.Tests.{whether}
@@ -19,9 +19,6 @@ use Rattle.slots.specs.Sets.{setBits}
 
 half-below : (d w : ℕ) → w < 2 ^ suc d → w / 2 < 2 ^ d
 half-below d w h = omega (arith, rw (pow-suc 2 d) at h)
-
-half-shift : (z w : ℕ) → w / 2 ^ suc z / 2 ≡ w / 2 / 2 ^ z / 2
-half-shift z w = rw (pow-succ', ← div-div-eq-div-mul w 2 (2 ^ z))
 
 module _ (d n w : ℕ) where
   bits-odd : w % 2 ≡ 1 → setBits (suc d) n w ≡ n ∷ setBits d (suc n) (w / 2)
@@ -44,44 +41,55 @@ module _ (d w : ℕ) where
 parity : {C : Type 0} (w : ℕ) → (w % 2 ≡ 1 → C) → (w % 2 ≡ 0 → C) → C
 parity w f g = whether (eqb (w % 2) 1) (λ t. f (eqb-true (w % 2) 1 t)) (λ t. g (omega (arith, eqb-false (w % 2) 1 t)))
 
--- To look past a word's last bit shows nothing more.
-bits-more : (d n w : ℕ) → w < 2 ^ d → setBits (suc d) n w ≡ setBits d n w
-unfolding setBits
-bits-more zero n w h = let none : w ≡ 0 = omega arith in rw none
-bits-more (suc d) n w h = rw (bits-more d (suc n) (w / 2) (half-below d w h))
-
 -- ---- The lowest bit that is set
 
--- Of m bits, it is one, and the bits above it are so many fewer.
-pub lowest-below :
-    (d m w : ℕ) → (w ≡ 0 → ⊥) → w < 2 ^ m → m ≤ d
-    → (trailingZeros d w < m) × (w / 2 ^ trailingZeros d w / 2 < 2 ^ (m - (trailingZeros d w + 1)))
-lowest-below d zero w some h l = absurd (some (omega (arith, h)))
-lowest-below zero (suc m) w some h l = absurd (omega (arith, l))
-lowest-below (suc d) (suc m) w some h l =
-    parity w
-    (λ e. let left : suc m - (0 + 1) ≡ m = omega arith in rw (zeros-odd d w e, div-one w, left) (omega arith, half-below m w h))
-    (λ e.
-    let z = trailingZeros d (w / 2) in
-    let rest = lowest-below d m (w / 2) (λ n. some (omega (arith, n, e))) (half-below m w h) (omega arith) in
-    let left : suc m - (suc z + 1) ≡ m - (z + 1) = omega arith in
-    rw (zeros-even d w e, half-shift z w, left) (omega (arith, rest .0), rest .1))
+-- It is taken out by one less: of an odd number that is the lowest, of an even one it is that of the half.
+odd-out : (w : ℕ) → w % 2 ≡ 1 → bitAnd w (w - 1) ≡ w / 2 * 2
+odd-out w e =
+    let half : (w - 1) / 2 ≡ w / 2 = omega (arith, e) in
+    let even : (w - 1) % 2 ≡ 0 = omega (arith, e) in
+    and-step w (w - 1) ∙ rw (half, even, and-self (w / 2), min-zero (w % 2)) (omega arith)
 
--- It comes first, and those above it follow.
+even-out : (w : ℕ) → (w ≡ 0 → ⊥) → w % 2 ≡ 0 → bitAnd w (w - 1) ≡ bitAnd (w / 2) (w / 2 - 1) * 2
+even-out w some e =
+    let half : (w - 1) / 2 ≡ w / 2 - 1 = omega (arith, e, some) in
+    and-step w (w - 1) ∙ rw (half, e, zero-min ((w - 1) % 2)) (omega arith)
+
+-- It is one of the bits, it comes first, and the others follow.
 pub bits-lowest :
     (d n w : ℕ) → (w ≡ 0 → ⊥) → w < 2 ^ d
-    → setBits d n w ≡ (n + trailingZeros d w) ∷ setBits d (n + (trailingZeros d w + 1)) (w / 2 ^ trailingZeros d w / 2)
+    → (trailingZeros d w < d) × (setBits d n w ≡ (n + trailingZeros d w) ∷ setBits d n (bitAnd w (w - 1)))
 bits-lowest zero n w some h = absurd (some (omega (arith, h)))
 bits-lowest (suc d) n w some h =
-    let below = half-below d w h in
     parity w
-    (λ e. rw (bits-odd d n w e, zeros-odd d w e, div-one w, add-zero n, add-one n, bits-more d (suc n) (w / 2) below))
-    (λ e.
-    let z = trailingZeros d (w / 2) in
-    let above = w / 2 / 2 ^ z / 2 in
-    let few : above < 2 ^ d = omega (arith, below, shr-le (w / 2) z) in
-    rw (zeros-even d w e, half-shift z w, bits-more d (n + (suc z + 1)) above few, bits-even d n w e)
-    (bits-lowest d (suc n) (w / 2) (λ k. some (omega (arith, k, e))) below ∙ rw (suc-add n z, add-suc n z, suc-add z 1, suc-add n (z + 1), add-suc n (z + 1))))
+    (λ e. let out = odd-out w e in
+    let even : w / 2 * 2 % 2 ≡ 0 = omega arith in
+    let half : w / 2 * 2 / 2 ≡ w / 2 = omega arith in
+    (rw (zeros-odd d w e) (omega arith), rw (bits-odd d n w e, zeros-odd d w e, add-zero n, out, bits-even d n (w / 2 * 2) even, half)))
+    (λ e. let out = even-out w some e in
+    let left = bitAnd (w / 2) (w / 2 - 1) in
+    let even : left * 2 % 2 ≡ 0 = omega arith in
+    let half : left * 2 / 2 ≡ left = omega arith in
+    let rest = bits-lowest d (suc n) (w / 2) (λ k. some (omega (arith, k, e))) (half-below d w h) in (
+      rw (zeros-even d w e) (omega (arith, rest .0)),
+      rw (bits-even d n w e, zeros-even d w e, out, bits-even d n (left * 2) even, half)
+          (rest .1 ∙ rw (suc-add n (trailingZeros d (w / 2)), add-suc n (trailingZeros d (w / 2)))),
+    ))
+
+-- ---- How many are set
+
+ones-none : ones 0 ≡ 0
+unfolding ones
+ones-none = refl
+
+pub bits-count : (d n w : ℕ) → w < 2 ^ d → length (setBits d n w) ≡ ones w
+unfolding setBits
+bits-count zero n w h = let none : w ≡ 0 = omega (arith, h) in rw none (sym ones-none)
+bits-count (suc d) n w h =
+    let rest = bits-count d (suc n) (w / 2) (half-below d w h) in
+    parity w
+    (λ e. omega (arith, ap length (bits-odd d n w e), rest, ones-step w, e))
+    (λ e. omega (arith, ap length (bits-even d n w e), rest, ones-step w, e))
 
 pub bits-none : (d n w : ℕ) → w ≡ 0 → setBits d n w ≡ []
 unfolding setBits

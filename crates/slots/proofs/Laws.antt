@@ -1,19 +1,19 @@
 -- What the slots of a table are, as numbers, and by its places. Assumes nothing.
-use Prim.Native.Nat.{ℕ, _+_, _*_, _/_, _%_, _^_, _<_}
+use Prim.Native.Nat.{ℕ, _+_, _*_, _/_, _%_, _^_, _≤_, _<_}
 use mathlib.Core.Path.{_≡_, refl, sym, ap, _∙_}
-use mathlib.Core.Bool.{Bool, true, false, _&&_, and-false, and-assoc}
+use mathlib.Core.Bool.{Bool, true, false, true≢false, _&&_, and-false, and-assoc}
 use mathlib.Core.List.{List, [], _∷_}
 use native.Mathlib.Omega.{arith}
-use lib.Dec.{eqb}
+use lib.Dec.{eqb, ltb}
 use lib.ListN.{length, replicate}
-use borrow.Author.Tests.{eq-eqb, eqb-true}
+use borrow.Author.Tests.{eq-eqb, eqb-true, ltb-true, ltb-false}
 use Rattle.mps.specs.Words.{among, any, keep, each, only, joined, below, part}
 use Rattle.mps.specs.Layout.{Entry, ofType, ioInterruptType, entrySize, headerSize, idOf, sourceBus, sourceIrq, pins, devices, pinOf, deviceOf, baseLength, baseEntryLength, basePart, baseEntries, busSlots}
 use Rattle.mps.specs.Sections.{rows}
 use Rattle.mps.specs.Slots.{slot, namesSlot, isPci, onPci, slotSize, slotNamed, slots, slotsOf}
 use Rattle.mps.specs.declared.Sections.{Sections}
 use Rattle.laws.proofs.Tests.{whether, same-test, and-parts}
-use Rattle.laws.proofs.Lists.{any-keep, any-and, among-each, keep-most}
+use Rattle.laws.proofs.Lists.{among-first, among-rest, among-cases, keep-in, keep-out, any-keep, any-and, among-each, keep-most}
 use Rattle.laws.proofs.Joined.{joined-keep, only-joined}
 use Rattle.laws.proofs.Rising.{length-rising, joined-rising, keep-rising, joined-blocks}
 use Rattle.laws.proofs.Small.{Bytes, Small, bytes-part, small-cut, small-rows, any-same}
@@ -21,8 +21,7 @@ use Rattle.roll.specs.Roll.{busBit, marked, enrolled, OnRoll}
 use Rattle.roll.proofs.Laws.{enrolled-on}
 use Rattle.judge.specs.Placed.{Placed}
 use Rattle.judge.proofs.Laws.{placed-pci}
-use Rattle.slots.specs.Sets.{slotsMost, slotNumber, namedOn, slotOf, isNamed, slotBytes, withSlots, slotsIn}
-use Rattle.slots.proofs.Sets.{has-only}
+use Rattle.slots.specs.Sets.{slotsMost, slotNumber, namedOn, slotOf, isNamed, slotBytes, listedOn, Held}
 use Rattle.slots.proofs.Writing.{length-slots}
 
 -- ---- The listing, by numbers
@@ -100,7 +99,16 @@ module _ (n : ℕ) where
       small
       ∙ sym (any-keep isSource (ofType ioInterruptType) es) ∙ ap (any isSource) e
 
--- ---- The set that is noted
+-- ---- The slots that are listed
+
+-- What is made of elements that are kept is made of elements.
+among-kept : {A : Type 0} (x : ℕ) (f : A → ℕ) (q : A → Bool) (xs : List A) → among x (each f (keep q xs)) ≡ true → among x (each f xs) ≡ true
+unfolding keep each
+among-kept x f q [] a = a
+among-kept x f q (y ∷ xs) a =
+    whether (q y)
+    (λ t. among-cases x (f y) (each f (keep q xs)) (rw (keep-in q y xs t) at a) (among-first x (f y) (each f xs)) (λ b. among-rest x (f y) (each f xs) (among-kept x f q xs b)))
+    (λ t. among-rest x (f y) (each f xs) (among-kept x f q xs (rw (keep-out q y xs t) at a)))
 
 -- The PCI buses are on the roll, and the type 3 entries are the rows.
 module _ (roll ids : List ℕ) (on : OnRoll busBit roll ids) (rs : List Entry) (small : Small rs) where
@@ -134,14 +142,24 @@ module _ (t : List ℕ) (p : Sections) (placed : Placed t p) where
   named-among n =
       rw (placed-pci t p placed (n / 128), names-rows n (baseEntries t) wired (small-cut baseEntryLength 0 (basePart t) (bytes-part headerSize (baseLength t) t (placed .bytes))) (placed .interrupts))
 
-  -- What the code has noted is what the table names.
-  pub noted-slots :
-      {roll words : List ℕ} (k : ℕ) → k ≡ 512 → roll ≡ enrolled busBit (replicate 256 0) pciIds → words ≡ withSlots (replicate k 0) (namedOn roll wired)
-      → slotsOf t ≡ joined slotBytes (slotsIn words)
-  unfolding slotsOf slotsIn
-  noted-slots {roll} k size e f =
-      slots-numbered (baseEntries t)
-      ∙ ap (joined slotBytes) (keep-rising _ _ slotsMost 0
-      (λ n a h. named-among n
-      ∙ sym (among-named roll pciIds (rw e (enrolled-on busBit 256 pciIds refl)) wired (small-rows entrySize _ (bytes-part (p .interrupts) (p .locals) t (placed .bytes))) n)
-      ∙ rw f (sym (has-only k (namedOn roll wired) n (omega (arith, h, size))))))
+  -- With these buses on the roll, the slots of the table are those that its type 3 entries name.
+  module _ {roll : List ℕ} (full : roll ≡ enrolled busBit (replicate 256 0) pciIds) where
+    on : OnRoll busBit roll pciIds
+    on = rw full (enrolled-on busBit 256 pciIds refl)
+
+    pub slots-listed : slotsOf t ≡ listedOn roll wired
+    unfolding slotsOf listedOn
+    slots-listed =
+        slots-numbered (baseEntries t)
+        ∙ ap (joined slotBytes) (keep-rising _ _ slotsMost 0
+        (λ n a h. named-among n
+        ∙ sym (among-named roll pciIds on wired (small-rows entrySize _ (bytes-part (p .interrupts) (p .locals) t (placed .bytes))) n)))
+
+    -- Two words for each bus ID up to the highest are enough.
+    pub buses-held : (top : ℕ) → ((x : ℕ) → top ≤ x → among x (each idOf (rows entrySize (part (p .buses) (p .ioapics) t))) ≡ false)
+        → {size : ℕ} → size ≡ top * 2 → Held roll size
+    buses-held top above e bus h m =
+        let is = among-kept bus idOf isPci (rows entrySize (part (p .buses) (p .ioapics) t)) (sym (on bus h) ∙ m) in
+        whether (ltb bus top)
+        (λ l. omega (arith, e, ltb-true bus top l))
+        (λ l. absurd (true≢false (sym is ∙ above bus (ltb-false bus top l))))

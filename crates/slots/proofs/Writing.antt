@@ -1,24 +1,22 @@
 -- Laws of what is written in the room: a slot, those of a word, and those of a set. Assumes nothing.
 use Prim.Native.Nat.{ℕ, suc, _+_, _-_, _*_, _/_, _%_, _^_, _≤_, _<_}
 use mathlib.Core.Path.{_≡_, refl, ap, _∙_}
+use mathlib.Core.Bool.{false}
 use mathlib.Core.List.{List, [], _∷_, _++_}
 use native.Mathlib.Omega.{arith}
-use native.Mathlib.Nat.{le-trans}
 use native.Mathlib.Numerals.{add-one}
-use lib.Count.{trailingZeros}
-use lib.Dec.{ltb}
+use lib.Bits.{bitAnd, and-le-r}
+use lib.Count.{trailingZeros, ones}
 use lib.ListN.{length, getD, set, length-append}
-use lib.Pow.{pow-mono}
 use lib.Seq.{sets}
-use borrow.Author.Tests.{ltb-true, ltb-false}
 use Rattle.mps.specs.Words.{bit, keep, joined, rising}
-use Rattle.laws.proofs.Tests.{whether}
-use Rattle.laws.proofs.Lists.{keep-append}
+use Rattle.laws.proofs.Lists.{keep-append, keep-nothing}
 use Rattle.laws.proofs.Joined.{joined-append}
-use Rattle.laws.proofs.Rising.{rising-append}
+use Rattle.laws.proofs.Rising.{rising-append, keep-rising}
 use Rattle.laws.proofs.Writes.{Writes, writes-first, writes-done, writes-next}
 use Rattle.slots.specs.Sets.{slotBytes, hasSlot, slotsIn, setBits}
-use Rattle.slots.proofs.Bits.{bits-none, lowest-below, bits-lowest, bits-keep}
+use Rattle.slots.proofs.Bits.{bits-none, bits-lowest, bits-count, bits-keep}
+use Rattle.slots.proofs.Sets.{has-past}
 
 -- ---- One slot
 
@@ -38,54 +36,40 @@ length-slots (n ∷ ns) = omega (arith, length-slots ns)
 
 -- ---- The slots of a word
 
--- What the loop keeps: with the bits left it comes to the whole, and these are below the word's end.
-abbrev pub Spells : List ℕ → ℕ → List ℕ → ℕ → List ℕ → ℕ → ℕ → ℕ → Type 0
-Spells t at w first out place n rest =
-    Writes t at w out place (joined slotBytes (setBits 64 n rest))
-    × (first ≤ n) × (n ≤ first + 64) × (rest < 2 ^ (first + 64 - n))
+-- What the loop keeps: with the bits left it comes to the whole.
+abbrev pub Spells : List ℕ → ℕ → List ℕ → ℕ → List ℕ → ℕ → ℕ → Type 0
+Spells t at w first out place rest = Writes t at w out place (joined slotBytes (setBits 64 first rest)) × (rest < 2 ^ 64)
 
-pub spells-first : (t : List ℕ) (at first word : ℕ) → word < 2 ^ 64 → Spells t at (joined slotBytes (setBits 64 first word)) first t at first word
-spells-first t at first word h =
-    let all : first + 64 - first ≡ 64 = omega arith in
-    (writes-first t at _, omega arith, omega arith, rw all h)
-
-module _ (t : List ℕ) (at : ℕ) (w : List ℕ) (first : ℕ) (out : List ℕ) (place n rest : ℕ) (inv : Spells t at w first out place n rest) where
+module _ (t : List ℕ) (at : ℕ) (w : List ℕ) (first : ℕ) (out : List ℕ) (place rest : ℕ) (inv : Spells t at w first out place rest) where
   pub spells-done : rest ≡ 0 → (place ≡ at + length w) × (out ≡ sets t at w)
   unfolding joined
-  spells-done e = writes-done (inv .0) (ap (joined slotBytes) (bits-none 64 n rest e))
+  spells-done e = writes-done (inv .0) (ap (joined slotBytes) (bits-none 64 first rest e))
 
   module _ (some : rest ≡ 0 → ⊥) where
     abbrev z : ℕ
     z = trailingZeros 64 rest
 
-    lowest : (z < first + 64 - n) × (rest / 2 ^ z / 2 < 2 ^ (first + 64 - n - (z + 1)))
-    lowest = lowest-below 64 (first + 64 - n) rest some (inv .3) (omega (arith, inv .1))
+    abbrev left : ℕ
+    left = bitAnd rest (rest - 1)
 
-    next : joined slotBytes (setBits 64 n rest) ≡ slotBytes (n + z) ++ joined slotBytes (setBits 64 (n + (z + 1)) (rest / 2 ^ z / 2))
+    next : joined slotBytes (setBits 64 first rest) ≡ slotBytes (first + z) ++ joined slotBytes (setBits 64 first left)
     unfolding joined
-    next =
-        let most : first + 64 - n ≤ 64 = omega (arith, inv .1) in
-        ap (joined slotBytes) (bits-lowest 64 n rest some (le-trans (inv .3) (pow-mono most)))
+    next = ap (joined slotBytes) (bits-lowest 64 first rest some (inv .1) .1)
 
-    -- The next slot is one of the word's, and there is room for it.
-    pub spells-inside : n + z < first + 64
-    spells-inside = omega (arith, lowest .0, inv .2)
+    -- The next slot is one of the word's, there is room for it, and less is left behind it.
+    pub spells-inside : z < 64
+    spells-inside = bits-lowest 64 first rest some (inv .1) .0
 
     pub spells-room : place + 3 ≤ at + length w
     unfolding slotBytes
     spells-room = omega (arith, ap length next, inv .0 .end)
 
-    pub spells-next :
-        {u : List ℕ} → u ≡ sets out place (slotBytes (n + z))
-        → Spells t at w first u (place + 3) (n + (z + 1)) (rest / 2 ^ z / 2)
+    pub spells-less : left < rest
+    spells-less = omega (arith, and-le-r rest (rest - 1), some)
+
+    pub spells-next : {u : List ℕ} → u ≡ sets out place (slotBytes (first + z)) → Spells t at w first u (place + 3) left
     unfolding slotBytes
-    spells-next g =
-        let left : first + 64 - (n + (z + 1)) ≡ first + 64 - n - (z + 1) = omega arith in (
-          writes-next (inv .0) (slotBytes (n + z)) _ next refl g,
-          omega (arith, inv .1),
-          omega (arith, lowest .0, inv .2),
-          rw left (lowest .1),
-        )
+    spells-next g = (writes-next (inv .0) (slotBytes (first + z)) _ next refl g, omega (arith, spells-less, inv .1))
 
 -- ---- The slots of a set
 
@@ -109,9 +93,11 @@ module _ (words : List ℕ) (k : ℕ) where
       rw (left, next, rising-append 64 ((512 - (k + 1)) * 64) (k * 64), ← bits-keep (hasSlot words) 64 (k * 64) (getD words k 0) own)
       (keep-append (hasSlot words) (rising 64 (k * 64)) (rising ((512 - (k + 1)) * 64) (64 + k * 64)))
 
-  from-done : 512 ≤ k → slotsFrom words k ≡ []
-  unfolding slotsFrom rising keep
-  from-done h = let none : (512 - k) * 64 ≡ 0 = omega arith in rw none
+  from-done : length words ≤ k → slotsFrom words k ≡ []
+  unfolding slotsFrom
+  from-done h =
+      keep-rising (hasSlot words) (λ (n : ℕ). false) ((512 - k) * 64) (k * 64) (λ n a b. has-past words n (omega (arith, a, h)))
+      ∙ keep-nothing (rising ((512 - k) * 64) (k * 64))
 
 from-first : (words : List ℕ) → slotsFrom words 0 ≡ slotsIn words
 unfolding slotsFrom slotsIn
@@ -119,39 +105,43 @@ from-first words = refl
 
 -- What the loop keeps.
 abbrev pub Fills : List ℕ → List ℕ → List ℕ → ℕ → ℕ → Type 0
-Fills t words out place k = Writes t 0 (joined slotBytes (slotsIn words)) out place (joined slotBytes (slotsFrom words k)) × (k ≤ 512)
+Fills t words out place k = Writes t 0 (joined slotBytes (slotsIn words)) out place (joined slotBytes (slotsFrom words k))
 
 pub fills-first : (t words : List ℕ) → Fills t words t 0 0
-fills-first t words = (rw (from-first words) (writes-first t 0 _), omega arith)
+fills-first t words = rw (from-first words) (writes-first t 0 _)
 
-none-left : (l : List ℕ) → length l ≡ 0 → l ≡ []
-none-left [] e = refl
-none-left (x ∷ l) e = absurd (omega (arith, e))
+module _ (t words out : List ℕ) (place k : ℕ) (inv : Fills t words out place k) where
+  pub fills-done : length words ≤ k → (place ≡ length (joined slotBytes (slotsIn words))) × (out ≡ sets t 0 (joined slotBytes (slotsIn words)))
+  unfolding joined
+  fills-done h = let e = writes-done inv (ap (joined slotBytes) (from-done words k h)) in (omega (arith, e .0), e .1)
 
-module _ (t words out : List ℕ) (place k n : ℕ) (inv : Fills t words out place k) (all : length (slotsIn words) ≡ n) where
-  total : length (joined slotBytes (slotsIn words)) ≡ n * 3
-  total = length-slots (slotsIn words) ∙ ap (λ (m : ℕ). m * 3) all
-
-  pub fills-done : n * 3 ≤ place → out ≡ sets t 0 (joined slotBytes (slotsIn words))
-  fills-done h = writes-done (inv .0) (none-left _ (omega (arith, inv .0 .end, total))) .1
-
-  module _ (h : place < n * 3) where
-    -- A word is left.
-    pub fills-inside : k < 512
-    unfolding joined
-    fills-inside =
-        whether (ltb k 512)
-        (λ t. ltb-true k 512 t)
-        (λ f. absurd (omega (arith, h, inv .0 .end, total, ap (λ (l : List ℕ). length (joined slotBytes l)) (from-done words k (ltb-false k 512 f)))))
-
+  module _ (h : k < 512) where
     abbrev here : List ℕ
     here = joined slotBytes (setBits 64 (k * 64) (getD words k 0))
 
     next-word : joined slotBytes (slotsFrom words k) ≡ here ++ joined slotBytes (slotsFrom words (k + 1))
-    next-word = rw (from-next words k fills-inside) (joined-append slotBytes (setBits 64 (k * 64) (getD words k 0)) (slotsFrom words (k + 1)))
+    next-word = rw (from-next words k h) (joined-append slotBytes (setBits 64 (k * 64) (getD words k 0)) (slotsFrom words (k + 1)))
 
-    pub fills-room : place + length here ≤ n * 3
-    fills-room = omega (arith, inv .0 .end, total, ap length next-word, length-append here (joined slotBytes (slotsFrom words (k + 1))))
+    pub fills-room : place + length here ≤ length (slotsIn words) * 3
+    fills-room =
+        omega (arith, inv .end, length-slots (slotsIn words), ap length next-word, length-append here (joined slotBytes (slotsFrom words (k + 1))))
 
     pub fills-next : {u : List ℕ} {q : ℕ} → q ≡ place + length here → u ≡ sets out place here → Fills t words u q (k + 1)
-    fills-next e g = (writes-next (inv .0) here _ next-word e g, omega (arith, fills-inside))
+    fills-next e g = writes-next inv here _ next-word e g
+
+-- ---- How many there are
+
+-- What the loop keeps: with those left they are all.
+abbrev pub Counts : List ℕ → ℕ → ℕ → Type 0
+Counts words n k = n + length (slotsFrom words k) ≡ length (slotsIn words)
+
+pub counts-first : (words : List ℕ) → Counts words 0 0
+counts-first words = omega (arith, ap length (from-first words))
+
+module _ (words : List ℕ) (n k : ℕ) (inv : Counts words n k) where
+  pub counts-done : length words ≤ k → n ≡ length (slotsIn words)
+  counts-done h = omega (arith, inv, ap length (from-done words k h))
+
+  pub counts-next : k < 512 → getD words k 0 < 2 ^ 64 → Counts words (n + ones (getD words k 0)) (k + 1)
+  counts-next h b =
+      omega (arith, inv, ap length (from-next words k h), length-append (setBits 64 (k * 64) (getD words k 0)) (slotsFrom words (k + 1)), bits-count 64 (k * 64) (getD words k 0) b)

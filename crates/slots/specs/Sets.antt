@@ -1,19 +1,23 @@
 -- Slots as numbers, and sets of them, as the code makes the listing. A slot is bus * 128 + device * 4 + pin, so that the
 -- numbers rise as the listing does. That the listing is made of these numbers: proofs/Laws.antt.
-use Prim.Native.Nat.{ℕ, zero, suc, _+_, _*_, _/_, _%_, _^_}
-use mathlib.Core.Bool.{Bool, _&&_}
+use Prim.Native.Nat.{ℕ, zero, suc, _+_, _*_, _/_, _%_, _^_, _<_}
+use mathlib.Core.Path.{_≡_}
+use mathlib.Core.Bool.{Bool, true, _&&_}
 use mathlib.Core.List.{List, [], _∷_, _++_}
 use lib.Bits.{bitOr}
 use lib.Dec.{eqb}
 use lib.ListN.{getD, set}
-use Rattle.mps.specs.Words.{bit, any, only, keep, each, below}
+use Rattle.mps.specs.Words.{bit, among, any, only, keep, each, joined, below}
 use Rattle.mps.specs.Layout.{Entry, sourceBus, sourceIrq, busSlots, pins, devices}
 use Rattle.mps.specs.Slots.{Slot, slot, namesSlot, onPci}
 use Rattle.roll.specs.Roll.{busBit, marked}
 
--- How many slots there are, on 256 buses.
+-- How many slots there are, on 256 buses, and how many words of 64 bits have a bit for each.
 abbrev pub slotsMost : ℕ
 slotsMost = 32768
+
+abbrev pub setWords : ℕ
+setWords = 512
 
 -- ---- The numbers
 
@@ -37,18 +41,18 @@ isNamed es n = onPci es (n / busSlots) && any (namesSlot (slotOf n)) es
 unfoldable pub slotBytes : ℕ → List ℕ
 slotBytes n = n / busSlots ∷ n / pins % devices ∷ n % pins ∷ []
 
+-- The bytes of these, each once, rising.
+unfoldable pub listedOn : List ℕ → List Entry → List ℕ
+listedOn roll es = joined slotBytes (keep (λ (n : ℕ). among n (namedOn roll es)) (below slotsMost))
+
 -- ---- The sets: number n is bit n % 64 of word n / 64
 
 unfoldable pub hasSlot : List ℕ → ℕ → Bool
 hasSlot words n = bit (n % 64) (getD words (n / 64) 0)
 
--- A set with one number more, and with each of some.
+-- A set with one number more.
 unfoldable pub withSlot : List ℕ → ℕ → List ℕ
 withSlot words n = set words (n / 64) (bitOr (getD words (n / 64) 0) (2 ^ (n % 64)))
-
-unfoldable pub withSlots : List ℕ → List ℕ → List ℕ
-withSlots words [] = words
-withSlots words (n ∷ ns) = withSlots (withSlot words n) ns
 
 -- The numbers in a set, rising.
 unfoldable pub slotsIn : List ℕ → List ℕ
@@ -58,3 +62,7 @@ slotsIn words = keep (hasSlot words) (below slotsMost)
 unfoldable pub setBits : ℕ → ℕ → ℕ → List ℕ
 setBits zero n word = []
 setBits (suc d) n word = only (eqb (word % 2) 1) (n ∷ []) ++ setBits d (suc n) (word / 2)
+
+-- So many words are enough for the slots on the buses of a roll, of which each has two.
+abbrev pub Held : List ℕ → ℕ → Type 0
+Held roll size = (bus : ℕ) → bus < 256 → marked busBit roll bus ≡ true → bus * 2 + 1 < size

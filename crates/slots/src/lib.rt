@@ -4,24 +4,26 @@
 // in mps's specs/Slots.antt; how the code comes to the slots, in specs/Sets.antt. A refusal leaves the room as it was.
 //
 // A slot is a number, and the slots that are named are a set of such numbers, so that the listing needs no sorting and asks
-// for nothing twice. One pass over the type 3 entries makes the set and counts what is in it; then its words are gone
-// through until all are written. So the cost is that of the table and of the answer: a small table ends after few words.
+// for nothing twice. One pass over the type 3 entries makes the set, one over its words writes what is in it. The set has
+// words for the buses up to the highest that is listed, since most tables have few, with low IDs.
 use mps::Examined;
 use mps::Lent;
 use mps::Sections;
 use mps::layout;
 ghost use mathlib.Core.Path.{_≡_};
-ghost use mathlib.Core.Bool.{cond};
-ghost use Prim.Native.Nat.{_+_, _*_, _≤_, _<_};
+ghost use mathlib.Core.Bool.{false, _||_};
+ghost use Prim.Native.Nat.{ℕ, _+_, _*_, _/_, _≤_, _<_};
 ghost use lib.ListN.{length};
+ghost use lib.Dec.{leb};
 ghost use lib.Seq.{sets};
-ghost use Rattle.mps.specs.Words.{joined};
-ghost use Rattle.mps.specs.Layout.{entrySize};
+ghost use Rattle.mps.specs.Words.{among, each, joined};
+ghost use Rattle.mps.specs.Layout.{entrySize, idOf};
 ghost use Rattle.mps.specs.Sections.{rows};
 ghost use Rattle.mps.specs.Judge.{tableRefusal};
+ghost use Rattle.mps.specs.Rooms.{fitted, fitLeft};
 ghost use Rattle.mps.specs.Slots.{slotSize, slotsListed, slotsLeft};
 ghost use Rattle.judge.specs.Placed.{Placed};
-ghost use Rattle.slots.specs.Sets.{slotsMost, slotNumber, namedOn, slotBytes, hasSlot, withSlot, withSlots, slotsIn, setBits};
+ghost use Rattle.slots.specs.Sets.{slotsMost, slotNumber, namedOn, listedOn, slotBytes, setWords, hasSlot, withSlot, slotsIn, Held, setBits};
 
 // The slots stand in the room from its first byte on.
 pub fn list(t: &[u8], out: &mut [u8]) -> Lent
@@ -47,50 +49,109 @@ fn of_table(t: &[u8], p: Sections, out: &mut [u8]) -> Lent
     let locals = p.locals;
     let mut pci = [0; 256];
     buses::pci(&mut pci, &t[buses..ioapics]);
+    let words = top(&t[buses..ioapics]) * 2;
+    let wired = &t[interrupts..locals];
+    if words <= 32 {
+        let mut few = [0; 32];
+        return of_set(&mut few[0..words], &pci, wired, out);
+    }
     let mut set = [0; 512];
-    let n = note(&mut set, &pci, &t[interrupts..locals]);
-    if out.len() < n * layout::SLOT_SIZE {
+    of_set(&mut set[0..words], &pci, wired, out)
+}
+
+// One more than the highest ID of a bus, 0 where there is none.
+fn top(s: &[u8]) -> usize
+    ensures { λ r. ⌜ (r ≤ 256) × ((x : ℕ) → r ≤ x → among x (each idOf (rows entrySize (now (s .entry)))) ≡ false) ⌝ }
+{
+    let mut top = 0;
+    let mut at = 0;
+    while layout::ENTRY_SIZE <= s.len() - at {
+        let id = numbers::wide(s[at + layout::ENTRY_ID]) as usize;
+        if top <= id {
+            top = id + 1;
+        }
+        at += layout::ENTRY_SIZE;
+    }
+    top
+}
+
+// The slots that the entries name on the buses of the roll, by an empty set that has words for these.
+fn of_set(set: &mut [u64], pci: &[u8; 256], s: &[u8], out: &mut [u8]) -> Lent
+    requires { ⌜ (length (now set) ≤ setWords) × ((n : ℕ) → hasSlot (now set) n ≡ false) × (Held (now pci) (length (now set))) ⌝ }
+    ensures { λ r. ⌜
+        r ≡ fitted (listedOn (now (pci .entry)) (rows entrySize (now (s .entry))))
+        (length (listedOn (now (pci .entry)) (rows entrySize (now (s .entry)))) / slotSize) (now (out .entry))
+        ⌝ }
+    ensures { λ _. ⌜ now (out .exit) ≡ fitLeft (listedOn (now (pci .entry)) (rows entrySize (now (s .entry)))) (now (out .entry)) ⌝ }
+{
+    note(set, pci, s);
+    if !fits(
+        set,
+        s.len() / layout::ENTRY_SIZE,
+        out.len() / layout::SLOT_SIZE,
+    ) {
         return Lent::Refused(19);
     }
-    write(out, &set, n);
-    Lent::Count(n)
+    let end = write(out, set);
+    Lent::Count(end / layout::SLOT_SIZE)
 }
 
 // The number of the slot that a source names.
 fn number(bus: u8, irq: u8) -> usize
-    ensures { λ r. ⌜ (r ≡ slotNumber bus irq) × (r < slotsMost) ⌝ }
+    ensures { λ r. ⌜ r ≡ slotNumber bus irq ⌝ }
 {
     numbers::wide(bus) as usize * layout::BUS_SLOTS as usize + (irq % layout::BUS_SLOTS) as usize
 }
 
-// Puts a slot into a set; answers how many slots more that makes, 0 or 1.
-fn put(set: &mut [u64; 512], n: usize) -> usize
-    requires { ⌜ n < slotsMost ⌝ }
-    ensures { λ r. ⌜ (r ≡ cond (hasSlot (now (set .entry)) n) 0 1) × (r ≤ 1) ⌝ }
+// Puts a slot into a set.
+fn put(set: &mut [u64], n: usize)
+    requires { ⌜ n / 64 < length (now set) ⌝ }
     ensures { λ _. ⌜ now (set .exit) ≡ withSlot (now (set .entry)) n ⌝ }
 {
     let k = n / 64;
-    let word = set[k];
-    set[k] = word | (1 << (n % 64));
-    1 - ((word >> (n % 64)) % 2) as usize
+    set[k] = set[k] | (1 << (n % 64));
 }
 
-// Puts in what the entries name on the buses of the roll; answers how many slots more that makes.
-fn note(set: &mut [u64; 512], pci: &[u8; 256], s: &[u8]) -> usize
-    requires { ⌜ length (now set) ≡ 512 ⌝ }
-    ensures { λ r. ⌜ length (slotsIn (now (set .entry))) + r ≡ length (slotsIn (now (set .exit))) ⌝ }
-    ensures { λ _. ⌜ now (set .exit) ≡ withSlots (now (set .entry)) (namedOn (now (pci .entry)) (rows entrySize (now (s .entry)))) ⌝ }
+// Puts in what the entries name on the buses of the roll.
+fn note(set: &mut [u64], pci: &[u8; 256], s: &[u8])
+    requires { ⌜ Held (now pci) (length (now set)) ⌝ }
+    ensures { λ _. ⌜
+        ((n : ℕ) → hasSlot (now (set .exit)) n ≡ (among n (namedOn (now (pci .entry)) (rows entrySize (now (s .entry)))) || hasSlot (now (set .entry)) n))
+        ⌝ }
 {
-    let mut count = 0;
     let mut at = 0;
     while layout::ENTRY_SIZE <= s.len() - at {
         let bus = s[at + layout::SOURCE_BUS];
         if roll::has(pci, bus, roll::BUS) {
-            count += put(set, number(bus, s[at + layout::SOURCE_IRQ]));
+            put(set, number(bus, s[at + layout::SOURCE_IRQ]));
         }
         at += layout::ENTRY_SIZE;
     }
-    count
+}
+
+// How many slots are in a set.
+fn count(set: &[u64]) -> usize
+    requires { ⌜ length (now set) ≤ setWords ⌝ }
+    ensures { λ r. ⌜ r ≡ length (slotsIn (now (set .entry))) ⌝ }
+{
+    let mut n = 0;
+    let mut k = 0;
+    while k < set.len() {
+        n += u64::count_ones(set[k]) as usize;
+        k += 1;
+    }
+    n
+}
+
+// Whether there is room for so many slots as are in a set. Where the most that can be fit they need not be counted.
+fn fits(set: &[u64], most: usize, room: usize) -> bool
+    requires { ⌜ (length (now set) ≤ setWords) × (length (slotsIn (now set)) ≤ most) ⌝ }
+    ensures { λ r. ⌜ r ≡ leb (length (slotsIn (now (set .entry)))) room ⌝ }
+{
+    if most <= room {
+        return true;
+    }
+    count(set) <= room
 }
 
 // One slot.
@@ -112,28 +173,26 @@ fn put_word(out: &mut [u8], at: usize, word: u64, first: usize) -> usize
     ensures { λ _. ⌜ now (out .exit) ≡ sets (now (out .entry)) at (joined slotBytes (setBits 64 first word)) ⌝ }
 {
     let mut place = at;
-    let mut n = first;
     let mut rest = word;
     while rest != 0 {
-        let below = u64::trailing_zeros(rest) as usize;
-        put_slot(out, place, n + below);
+        put_slot(out, place, first + u64::trailing_zeros(rest) as usize);
         place += layout::SLOT_SIZE;
-        n += below + 1;
-        rest = (rest >> below) / 2;
+        rest = rest & (rest - 1);
     }
     place
 }
 
-// All slots of a set, of which there are n, from the room's first byte on.
-fn write(out: &mut [u8], set: &[u64; 512], n: usize)
-    requires { ⌜ (length (slotsIn (now set)) ≡ n) × (n * slotSize ≤ length (now out)) ⌝ }
+// All slots of a set, from the room's first byte on; answers the place behind them.
+fn write(out: &mut [u8], set: &[u64]) -> usize
+    requires { ⌜ (length (now set) ≤ setWords) × (length (slotsIn (now set)) * slotSize ≤ length (now out)) ⌝ }
+    ensures { λ r. ⌜ r ≡ length (joined slotBytes (slotsIn (now (set .entry)))) ⌝ }
     ensures { λ _. ⌜ now (out .exit) ≡ sets (now (out .entry)) 0 (joined slotBytes (slotsIn (now (set .entry)))) ⌝ }
 {
-    let end = n * layout::SLOT_SIZE;
     let mut place = 0;
     let mut k = 0;
-    while place < end {
+    while k < set.len() {
         place = put_word(out, place, set[k], k * 64);
         k += 1;
     }
+    place
 }

@@ -7,7 +7,7 @@ use Rattle.slots.proofs.number.Tie as tie
 
 returns : tie.Need-returns
 unfolding slotNumber
-returns c = (omega arith, omega arith)
+returns c = omega arith
 
 pub number-spec : {M : Type 1} → statement M
 number-spec = tie.close (tie.spec (λ c κs. search needs) (λ c. search needs) (λ c. search needs) (λ c. search needs) (λ c. search needs) returns)

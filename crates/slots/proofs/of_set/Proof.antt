@@ -1,0 +1,50 @@
+-- What is noted in an empty set is what there is to list.
+use native.Mathlib.Omega.{arith}
+use borrow.Author.Needs.{needs}
+use Rattle.mps.specs.Sections.{rows}
+use Rattle.laws.proofs.Rows.{rows-count}
+use Rattle.slots.proofs.Answering.{set-few, set-short, set-fits, set-put}
+use Rattle.slots.proofs.of_set.Statement.{statement}
+use Rattle.slots.proofs.of_set.Tie as tie
+
+fits-requires : tie.Need-fits-requires
+fits-requires c κs =
+    let n = c .before .before .before in
+    let s = n .before .before .before .before .before in
+    (omega (arith, s .pre .0, n .note .kept), omega (arith, set-few (s .args .pci .now) (rows 8 (s .args .s .now)) _ _ (s .pre .1) (n .note .ensures), rows-count (s .args .s .now)))
+
+returns : tie.Need-returns
+returns c =
+    let n = c .before .before .before .before .before in
+    let s = n .before .before .before .before .before in
+    set-short (s .args .pci .now) (rows 8 (s .args .s .now)) _ _ (s .pre .1) (n .note .ensures) (s .args .out .now) (c .before .fits2 .ensures) (c .if1 .taken)
+
+write-requires : tie.Need-write-requires
+write-requires c κs =
+    let f = c .before .before .before in
+    let n = f .before .before .before .before in
+    let s = n .before .before .before .before .before in (
+      omega (arith, s .pre .0, n .note .kept),
+      set-fits (s .args .pci .now) (rows 8 (s .args .s .now)) _ _ (s .pre .1) (n .note .ensures) (s .args .out .now) (f .fits2 .ensures) (c .before .before .if1 .left),
+    )
+
+returns-2 : tie.Need-returns-2
+returns-2 c =
+    let w = c .before .before in
+    let f = w .before .before .before .before in
+    let n = f .before .before .before .before in
+    let s = n .before .before .before .before .before in
+    set-put (s .args .pci .now) (rows 8 (s .args .s .now)) _ _ (s .pre .1) (n .note .ensures) (s .args .out .now) (f .fits2 .ensures) (w .before .before .before .if1 .left)
+    (w .write .ensures .0) (w .write .ensures .1)
+
+pub of-set-spec : {M : Type 1} → statement M
+of-set-spec =
+    tie.close
+    (tie.spec
+    (λ c κs. search needs)
+    fits-requires
+    (λ c. search needs)
+    returns
+    write-requires
+    (λ c. search needs) (λ c. search needs)
+    returns-2)
