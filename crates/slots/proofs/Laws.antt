@@ -8,7 +8,7 @@ use lib.Dec.{eqb, ltb}
 use lib.ListN.{length, replicate}
 use borrow.Author.Tests.{eq-eqb, eqb-true, ltb-true, ltb-false}
 use Rattle.mps.specs.Words.{among, any, keep, each, only, joined, below, part}
-use Rattle.mps.specs.Layout.{Entry, ofType, ioInterruptType, entrySize, headerSize, idOf, sourceBus, sourceIrq, pins, devices, pinOf, deviceOf, baseLength, baseEntryLength, basePart, baseEntries, busSlots}
+use Rattle.mps.specs.Layout.{Entry, ofType, ioInterruptType, entrySize, headerSize, idOf, sourceBus, sourceIrq, pins, devices, pinOf, deviceOf, baseLength, baseEntryLength, basePart, baseEntries}
 use Rattle.mps.specs.Sections.{rows}
 use Rattle.mps.specs.Slots.{slot, namesSlot, isPci, onPci, slotSize, slotNamed, slots, slotsOf}
 use Rattle.mps.specs.declared.Sections.{Sections}

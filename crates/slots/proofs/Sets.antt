@@ -2,7 +2,7 @@
 -- keep. Assumes nothing.
 use Prim.Native.Nat.{ℕ, zero, suc, _+_, _-_, _*_, _/_, _%_, _^_, _≤_, _<_}
 use mathlib.Core.Path.{_≡_, refl, sym, ap, _∙_}
-use mathlib.Core.Bool.{Bool, true, false, _||_, or-false, or-assoc, or-comm}
+use mathlib.Core.Bool.{Bool, true, false, _||_, or-assoc, or-comm}
 use mathlib.Core.List.{List, [], _∷_}
 use native.Mathlib.Omega.{arith}
 use native.Mathlib.Nat.{one-mul}
@@ -10,9 +10,9 @@ use lib.Bits.{bitOr}
 use lib.Dec.{eqb, ltb}
 use lib.Pow.{shl-exact}
 use lib.ListN.{length, getD, set, length-set, take, drop, replicate, length-replicate, List·getD-eq-default}
-use lib.Seq.{length-take-le, getD-set-same, getD-set-other}
+use lib.Seq.{length-take-le, getD-set-same, getD-set-other, set-getD, set-set}
 use borrow.Author.Tests.{eq-eqb, ne-eqb, eqb-true, eqb-false, ltb-true, ltb-false}
-use Rattle.mps.specs.Words.{bit, among, keep, each, below, rising}
+use Rattle.mps.specs.Words.{bit, among, keep, each, below}
 use Rattle.mps.specs.Layout.{Entry, idOf, sourceBus}
 use Rattle.mps.specs.Sections.{rows}
 use Rattle.laws.proofs.Tests.{whether, or-swap}
@@ -71,10 +71,16 @@ has-with words n m h =
         (λ t. rw t (eq-eqb (m % 64) (n % 64) (omega (arith, eqb-true m n t))))
         (λ f. rw f (ne-eqb (m % 64) (n % 64) (λ e. eqb-false m n f (omega (arith, e, k)))))
 
--- The code's store.
-pub put-stored : (words : List ℕ) (n : ℕ) → set words (n / 64) (bitOr (getD words (n / 64) 0) (1 * 2 ^ (n % 64) % 2 ^ 64)) ≡ withSlot words n
-unfolding withSlot
-put-stored words n = rw (shl-exact {a = 1} 1 (n % 64) 64 (omega arith) (omega arith), one-mul (2 ^ (n % 64)))
+-- The word that is kept at hand is the slot's; and it is taken up where it was not.
+module _ (words : List ℕ) (n : ℕ) (h : n / 64 < length words) where
+  pub kept-put : (k word : ℕ) → k ≡ n / 64 → set words k (bitOr word (1 * 2 ^ (n % 64) % 2 ^ 64)) ≡ withSlot (set words k word) n
+  unfolding withSlot
+  kept-put k word e =
+      rw (e, shl-exact {a = 1} 1 (n % 64) 64 (omega arith) (omega arith), one-mul (2 ^ (n % 64)), getD-set-same words (n / 64) word 0 h)
+      (sym (set-set words (n / 64) word (bitOr word (2 ^ (n % 64)))))
+
+  pub taken-put : set words (n / 64) (bitOr (getD words (n / 64) 0) (1 * 2 ^ (n % 64) % 2 ^ 64)) ≡ withSlot words n
+  taken-put = kept-put (n / 64) (getD words (n / 64) 0) refl ∙ rw (set-getD words (n / 64) 0)
 
 -- ---- How many there are
 
@@ -103,12 +109,12 @@ among-few (x ∷ ns) k =
 abbrev pub Tops : List ℕ → ℕ → ℕ → Type 0
 Tops s top at =
     ((x : ℕ) → top ≤ x → among x (each idOf (rows 8 s)) ≡ among x (each idOf (rows 8 (drop at s))))
-    × (at ≤ length s) × (top ≤ 256)
+    × (at ≤ length s) × (top ≤ 256) × (0 < top)
 
 module _ (s : List ℕ) (top at : ℕ) (inv : Tops s top at) where
-  pub tops-done : length s - at < 8 → (top ≤ 256) × ((x : ℕ) → top ≤ x → among x (each idOf (rows 8 s)) ≡ false)
+  pub tops-done : length s - at < 8 → (0 < top) × (top ≤ 256) × ((x : ℕ) → top ≤ x → among x (each idOf (rows 8 s)) ≡ false)
   unfolding among each
-  tops-done f = (inv .2, λ x h. inv .0 x h ∙ rw (rows-done 8 s at (inv .1) f))
+  tops-done f = (inv .3, inv .2, λ x h. inv .0 x h ∙ rw (rows-done 8 s at (inv .1) f))
 
   pub tops-next : 8 ≤ length s - at → {u : ℕ} → top ≤ u → u ≤ 256 → getD s (at + 1) 0 < u → Tops s u (at + 8)
   unfolding among each
@@ -117,6 +123,7 @@ module _ (s : List ℕ) (top at : ℕ) (inv : Tops s top at) where
         ∙ rw (rows-next 8 s at (omega arith) (inv .1) f, row-byte 8 s at 1 (omega arith), ne-eqb x (getD s (at + 1) 0) (λ e. omega (arith, e, c, h))),
     omega (arith, f),
     b,
+    omega (arith, a, inv .3),
   )
 
 -- ---- The pass over the interrupts

@@ -23,7 +23,7 @@ ghost use Rattle.mps.specs.Judge.{tableRefusal};
 ghost use Rattle.mps.specs.Rooms.{fitted, fitLeft};
 ghost use Rattle.mps.specs.Slots.{slotSize, slotsListed, slotsLeft};
 ghost use Rattle.judge.specs.Placed.{Placed};
-ghost use Rattle.slots.specs.Sets.{slotsMost, slotNumber, namedOn, listedOn, slotBytes, setWords, hasSlot, withSlot, slotsIn, Held, setBits};
+ghost use Rattle.slots.specs.Sets.{slotsMost, slotNumber, namedOn, listedOn, slotBytes, setWords, hasSlot, slotsIn, Held, setBits};
 
 // The slots stand in the room from its first byte on.
 pub fn list(t: &[u8], out: &mut [u8]) -> Lent
@@ -59,11 +59,11 @@ fn of_table(t: &[u8], p: Sections, out: &mut [u8]) -> Lent
     of_set(&mut set[0..words], &pci, wired, out)
 }
 
-// One more than the highest ID of a bus, 0 where there is none.
+// One more than the highest ID of a bus, 1 where there is none.
 fn top(s: &[u8]) -> usize
-    ensures { λ r. ⌜ (r ≤ 256) × ((x : ℕ) → r ≤ x → among x (each idOf (rows entrySize (now (s .entry)))) ≡ false) ⌝ }
+    ensures { λ r. ⌜ (0 < r) × (r ≤ 256) × ((x : ℕ) → r ≤ x → among x (each idOf (rows entrySize (now (s .entry)))) ≡ false) ⌝ }
 {
-    let mut top = 0;
+    let mut top = 1;
     let mut at = 0;
     while layout::ENTRY_SIZE <= s.len() - at {
         let id = numbers::wide(s[at + layout::ENTRY_ID]) as usize;
@@ -77,7 +77,7 @@ fn top(s: &[u8]) -> usize
 
 // The slots that the entries name on the buses of the roll, by an empty set that has words for these.
 fn of_set(set: &mut [u64], pci: &[u8; 256], s: &[u8], out: &mut [u8]) -> Lent
-    requires { ⌜ (length (now set) ≤ setWords) × ((n : ℕ) → hasSlot (now set) n ≡ false) × (Held (now pci) (length (now set))) ⌝ }
+    requires { ⌜ (0 < length (now set)) × (length (now set) ≤ setWords) × ((n : ℕ) → hasSlot (now set) n ≡ false) × (Held (now pci) (length (now set))) ⌝ }
     ensures { λ r. ⌜
         r ≡ fitted (listedOn (now (pci .entry)) (rows entrySize (now (s .entry))))
         (length (listedOn (now (pci .entry)) (rows entrySize (now (s .entry)))) / slotSize) (now (out .entry))
@@ -103,30 +103,31 @@ fn number(bus: u8, irq: u8) -> usize
     numbers::wide(bus) as usize * layout::BUS_SLOTS as usize + (irq % layout::BUS_SLOTS) as usize
 }
 
-// Puts a slot into a set.
-fn put(set: &mut [u64], n: usize)
-    requires { ⌜ n / 64 < length (now set) ⌝ }
-    ensures { λ _. ⌜ now (set .exit) ≡ withSlot (now (set .entry)) n ⌝ }
-{
-    let k = n / 64;
-    set[k] = set[k] | (1 << (n % 64));
-}
-
-// Puts in what the entries name on the buses of the roll.
+// Puts in what the entries name on the buses of the roll. Those of one bus mostly stand one behind the other: the word that
+// the last slot went to is kept at hand, since to read it from the set would wait until it is there.
 fn note(set: &mut [u64], pci: &[u8; 256], s: &[u8])
-    requires { ⌜ Held (now pci) (length (now set)) ⌝ }
+    requires { ⌜ (0 < length (now set)) × (length (now set) ≤ setWords) × (Held (now pci) (length (now set))) ⌝ }
     ensures { λ _. ⌜
         ((n : ℕ) → hasSlot (now (set .exit)) n ≡ (among n (namedOn (now (pci .entry)) (rows entrySize (now (s .entry)))) || hasSlot (now (set .entry)) n))
         ⌝ }
 {
+    let mut k = 0;
+    let mut word = set[0];
     let mut at = 0;
     while layout::ENTRY_SIZE <= s.len() - at {
         let bus = s[at + layout::SOURCE_BUS];
         if roll::has(pci, bus, roll::BUS) {
-            put(set, number(bus, s[at + layout::SOURCE_IRQ]));
+            let n = number(bus, s[at + layout::SOURCE_IRQ]);
+            if n / 64 != k {
+                set[k] = word;
+                k = n / 64;
+                word = set[k];
+            }
+            word = word | (1 << (n % 64));
         }
         at += layout::ENTRY_SIZE;
     }
+    set[k] = word;
 }
 
 // How many slots are in a set.

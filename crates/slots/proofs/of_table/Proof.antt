@@ -14,13 +14,13 @@ held : (c : tie.After-top) → {size : ℕ} → size ≡ c .top .result * 2 → 
 held c e =
     let p = c .before .before in
     let s = p .before .before .before .before .before in
-    buses-held (s .args .t .now) (s .args .p) (s .pre .1) (p .pci2 .ensures) (c .top .result) (c .top .ensures .1) e
+    buses-held (s .args .t .now) (s .args .p) (s .pre .1) (p .pci2 .ensures) (c .top .result) (c .top .ensures .2) e
 
 of-set-requires : tie.Need-of-set-requires
 of-set-requires c κs =
     let n = c .before .before .before .before .before in
     let z = cut-none 32 (n .top .result * 2) (c .before .before .before .if1 .taken) in
-    (omega arith, z .1, held n (z .0))
+    (omega (arith, z .0, n .top .ensures .0), omega arith, z .1, held n (z .0))
 
 returns : tie.Need-returns
 returns c =
@@ -32,8 +32,8 @@ returns c =
 of-set-requires-2 : tie.Need-of-set-requires-2
 of-set-requires-2 c κs =
     let n = c .before .before .before .before .before in
-    let z = cut-none 512 (n .top .result * 2) (omega (arith, n .top .ensures .0)) in
-    (omega arith, z .1, held n (z .0))
+    let z = cut-none 512 (n .top .result * 2) (omega (arith, n .top .ensures .1)) in
+    (omega (arith, z .0, n .top .ensures .0), omega arith, z .1, held n (z .0))
 
 returns-2 : tie.Need-returns-2
 returns-2 c =
