@@ -1,6 +1,6 @@
 -- What the slots of a table are, as numbers, and by its places. Assumes nothing.
 use Prim.Native.Nat.{ℕ, _+_, _*_, _/_, _%_, _^_, _≤_, _<_}
-use mathlib.Core.Path.{_≡_, refl, sym, ap, _∙_}
+use mathlib.Core.Path.{_≡_, refl, sym, ap, _∙_, fun-ext}
 use mathlib.Core.Bool.{Bool, true, false, true≢false, _&&_, and-false, and-assoc}
 use mathlib.Core.List.{List, [], _∷_}
 use native.Mathlib.Omega.{arith}
@@ -8,7 +8,7 @@ use lib.Dec.{eqb, ltb}
 use lib.ListN.{length, replicate}
 use borrow.Author.Tests.{eq-eqb, eqb-true, ltb-true, ltb-false}
 use Rattle.mps.specs.Words.{among, any, keep, each, only, joined, below, part}
-use Rattle.mps.specs.Layout.{Entry, ofType, ioInterruptType, entrySize, headerSize, idOf, sourceBus, sourceIrq, pins, devices, pinOf, deviceOf, baseLength, baseEntryLength, basePart, baseEntries}
+use Rattle.mps.specs.Layout.{Entry, ofType, ioInterruptType, entrySize, idOf, sourceBus, sourceIrq, pins, devices, pinOf, deviceOf, baseEntries}
 use Rattle.mps.specs.Sections.{rows}
 use Rattle.mps.specs.Slots.{slot, namesSlot, isPci, onPci, slotSize, slotNamed, slots, slotsOf}
 use Rattle.mps.specs.declared.Sections.{Sections}
@@ -16,7 +16,7 @@ use Rattle.laws.proofs.Tests.{whether, same-test, and-parts}
 use Rattle.laws.proofs.Lists.{among-first, among-rest, among-cases, keep-in, keep-out, any-keep, any-and, among-each, keep-most}
 use Rattle.laws.proofs.Joined.{joined-keep, only-joined}
 use Rattle.laws.proofs.Rising.{length-rising, joined-rising, keep-rising, joined-blocks}
-use Rattle.laws.proofs.Small.{Bytes, Small, bytes-part, small-cut, small-rows, any-same}
+use Rattle.laws.proofs.Small.{Bytes, Small, bytes-part, small-rows, any-same}
 use Rattle.roll.specs.Roll.{busBit, marked, enrolled, OnRoll}
 use Rattle.roll.proofs.Laws.{enrolled-on}
 use Rattle.judge.specs.Placed.{Placed}
@@ -90,13 +90,11 @@ module _ (n : ℕ) where
       (omega (arith, eqb-true bus (n / 128) (q .0), eqb-true (irq / 4 % 32) (n / 4 % 32) (q .1), eqb-true (irq % 4) (n % 4) (p .1))))
 
   -- Of type 3 entries among all.
-  names-rows : (es rs : List Entry) → Small es → keep (ofType ioInterruptType) es ≡ rs → any (namesSlot (slotOf n)) es ≡ any isSource rs
+  names-rows : (es rs : List Entry) → keep (ofType ioInterruptType) es ≡ rs → any (namesSlot (slotOf n)) es ≡ any isSource rs
   unfolding namesSlot
-  names-rows es rs small e =
-      any-same (namesSlot (slotOf n)) (λ (x : Entry). ofType ioInterruptType x && isSource x)
-      (λ x b. ap (λ (k : Bool). k && eqb (pinOf x) (n % 4)) (and-assoc (ofType ioInterruptType x) (eqb (sourceBus x) (n / 128)) (eqb (deviceOf x) (n / 4 % 32)))
-      ∙ and-assoc (ofType ioInterruptType x) (eqb (sourceBus x) (n / 128) && eqb (deviceOf x) (n / 4 % 32)) (eqb (pinOf x) (n % 4)))
-      small
+  names-rows es rs e =
+      ap (λ (test : Entry → Bool). any test es) (fun-ext (λ x. ap (λ (k : Bool). k && eqb (pinOf x) (n % 4)) (and-assoc (ofType ioInterruptType x) (eqb (sourceBus x) (n / 128)) (eqb (deviceOf x) (n / 4 % 32)))
+      ∙ and-assoc (ofType ioInterruptType x) (eqb (sourceBus x) (n / 128) && eqb (deviceOf x) (n / 4 % 32)) (eqb (pinOf x) (n % 4))))
       ∙ sym (any-keep isSource (ofType ioInterruptType) es) ∙ ap (any isSource) e
 
 -- ---- The slots that are listed
@@ -138,9 +136,9 @@ module _ (t : List ℕ) (p : Sections) (placed : Placed t p) where
   wired = rows entrySize (part (p .interrupts) (p .locals) t)
 
   named-among : (n : ℕ) → isNamed (baseEntries t) n ≡ (among (n / 128) pciIds && any (isSource n) wired)
-  unfolding isNamed baseEntries
+  unfolding isNamed
   named-among n =
-      rw (placed-pci t p placed (n / 128), names-rows n (baseEntries t) wired (small-cut baseEntryLength 0 (basePart t) (bytes-part headerSize (baseLength t) t (placed .bytes))) (placed .interrupts))
+      rw (placed-pci t p placed (n / 128), names-rows n (baseEntries t) wired (placed .interrupts))
 
   -- With these buses on the roll, the slots of the table are those that its type 3 entries name.
   module _ {roll : List ℕ} (full : roll ≡ enrolled busBit (replicate 256 0) pciIds) where

@@ -10,8 +10,9 @@ use lib.Count.{trailingZeros, ones}
 use lib.ListN.{length, getD, set, length-append}
 use lib.Seq.{sets}
 use Rattle.mps.specs.Words.{bit, keep, joined, rising}
+use Rattle.mps.specs.Slots.{slotSize}
 use Rattle.laws.proofs.Lists.{keep-append, keep-nothing}
-use Rattle.laws.proofs.Joined.{joined-append}
+use Rattle.laws.proofs.Joined.{joined-append, joined-length}
 use Rattle.laws.proofs.Rising.{rising-append, keep-rising}
 use Rattle.laws.proofs.Writes.{Writes, writes-first, writes-done, writes-next}
 use Rattle.slots.specs.Sets.{slotBytes, hasSlot, slotsIn, setBits}
@@ -29,10 +30,9 @@ slot-put t at n =
     let two : at + 2 ≡ suc (suc at) = omega arith in
     rw (device, pin, add-one at, two)
 
-pub length-slots : (ns : List ℕ) → length (joined slotBytes ns) ≡ length ns * 3
-unfolding joined slotBytes
-length-slots [] = refl
-length-slots (n ∷ ns) = omega (arith, length-slots ns)
+pub length-slots : (ns : List ℕ) → length (joined slotBytes ns) ≡ length ns * slotSize
+unfolding slotBytes
+length-slots = joined-length slotBytes slotSize (λ n. refl)
 
 -- ---- The slots of a word
 
