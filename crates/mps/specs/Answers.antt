@@ -18,6 +18,8 @@ use Rattle.mps.specs.declared.Lent.{Lent}
 use Rattle.mps.specs.declared.Lent.the-variants.{Count, Refused as Lent·Refused}
 use Rattle.mps.specs.declared.Parted.{Parted}
 use Rattle.mps.specs.declared.Parted.the-variants.{Parts, Refused as Parted·Refused}
+use Rattle.mps.specs.declared.Renumbered.{Renumbered}
+use Rattle.mps.specs.declared.Renumbered.the-variants.{Given, Refused as Renumbered·Refused}
 use Rattle.mps.specs.declared.Seen.{Seen}
 use Rattle.mps.specs.declared.Seen.the-variants.{No, Yes, Undeclared, Refused as Seen·Refused}
 use Rattle.mps.specs.declared.Edited.{Edited}
@@ -54,6 +56,11 @@ lentNumbers (Lent·Refused n) = n ∷ []
 abbrev pub partedNumbers : Parted → List ℕ
 partedNumbers (Parts base end) = 0 ∷ base ∷ end ∷ []
 partedNumbers (Parted·Refused n) = n ∷ []
+
+-- "a byte for each enabled one", and "how many bits are set at the end".
+abbrev pub renumberedNumbers : Renumbered → List ℕ
+renumberedNumbers (Given count used) = 0 ∷ count ∷ used ∷ []
+renumberedNumbers (Renumbered·Refused n) = n ∷ []
 
 -- The paper names the three answers and gives them no numbers: no is 0, yes is 1, undeclared is 2. Then the links climbed.
 abbrev pub seenNumbers : Seen → List ℕ
@@ -101,6 +108,10 @@ lentOf (suc n) count = Lent·Refused (suc n)
 abbrev pub partedOf : ℕ → Parted → Parted
 partedOf zero parts = parts
 partedOf (suc n) parts = Parted·Refused (suc n)
+
+abbrev pub renumberedOf : ℕ → ℕ → ℕ → Renumbered
+renumberedOf zero count used = Given count used
+renumberedOf (suc n) count used = Renumbered·Refused (suc n)
 
 abbrev pub seenOf : ℕ → Seen → Seen
 seenOf zero seen = seen

@@ -15,6 +15,7 @@ pub mod Sections
 pub mod Judge
 pub mod Routes
 pub mod Slots
+pub mod Renumber
 pub mod Addresses
 pub mod Listing
 pub mod Writing

@@ -86,6 +86,13 @@ pub enum Parted {
     Refused(u8),
 }
 
+// The new numbers of the I/O APICs: how many stand in the lent room, one for each enabled one, and how many numbers are used
+// then; or the number of the refusal.
+pub enum Renumbered {
+    Given { count: usize, used: usize },
+    Refused(u8),
+}
+
 // What a bus sees of an address, each with the links to parents climbed.
 pub enum Seen {
     No(usize),

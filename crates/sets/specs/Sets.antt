@@ -1,41 +1,33 @@
--- Sets of the numbers 0 to 255, in four words of 64 bits: number x is bit x % 64 of word x / 64.
-use Prim.Native.Nat.{ℕ, _/_, _%_, _^_}
-use mathlib.Core.Bool.{Bool, cond}
+-- Sets of numbers in words of 64 bits: number n is bit n % 64 of word n / 64. Four words have bits for 0 to 255; a number past
+-- the last word is in no set.
+use Prim.Native.Nat.{ℕ, _*_, _/_, _%_, _^_}
+use mathlib.Core.Bool.{Bool, not}
 use mathlib.Core.List.{List, [], _∷_}
 use lib.Bits.{bitOr}
-use lib.Dec.{eqb}
-use lib.ListN.{getD}
-use Rattle.mps.specs.Words.{bit}
-use Rattle.sets.specs.declared.Numbers.{Numbers}
-
--- The word at a place of a set.
-abbrev pub word : Numbers → ℕ → ℕ
-word s k = getD (s .words) k 0
+use lib.ListN.{length, getD, set}
+use Rattle.mps.specs.Words.{bit, keep, head, below}
 
 -- Whether a number is in a set.
-unfoldable pub holds : Numbers → ℕ → Bool
-holds s x = bit (x % 64) (word s (x / 64))
+unfoldable pub holds : List ℕ → ℕ → Bool
+holds words n = bit (n % 64) (getD words (n / 64) 0)
 
--- The set that nothing is in.
-unfoldable pub noNumbers : Numbers
-noNumbers = record { words = 0 ∷ 0 ∷ 0 ∷ 0 ∷ [] }
-
--- Word k of the set that only x is in.
-unfoldable pub alone : ℕ → ℕ → ℕ
-alone x k = cond (eqb (x / 64) k) (2 ^ (x % 64)) 0
-
--- A set with one number more.
-unfoldable pub withNumber : Numbers → ℕ → Numbers
-withNumber s x = record {
-  words =
-      bitOr (word s 0) (alone x 0)
-      ∷ bitOr (word s 1) (alone x 1)
-      ∷ bitOr (word s 2) (alone x 2)
-      ∷ bitOr (word s 3) (alone x 3)
-      ∷ [];
-}
+-- A set with one number more, where it has a bit for it.
+unfoldable pub withNumber : List ℕ → ℕ → List ℕ
+withNumber words n = set words (n / 64) (bitOr (getD words (n / 64) 0) (2 ^ (n % 64)))
 
 -- A set with every number of a list.
-unfoldable pub putAll : Numbers → List ℕ → Numbers
-putAll s [] = s
-putAll s (x ∷ xs) = putAll (withNumber s x) xs
+unfoldable pub putAll : List ℕ → List ℕ → List ℕ
+putAll words [] = words
+putAll words (n ∷ ns) = putAll (withNumber words n) ns
+
+-- How many numbers a set has bits for.
+abbrev pub bitsOf : List ℕ → ℕ
+bitsOf words = 64 * length words
+
+-- The numbers in a set, rising.
+unfoldable pub members : List ℕ → List ℕ
+members words = keep (holds words) (below (bitsOf words))
+
+-- The lowest number that is not in a set: where all are in that it has bits for, the first behind them.
+unfoldable pub lowestOut : List ℕ → ℕ
+lowestOut words = head (bitsOf words) (keep (λ (n : ℕ). not (holds words n)) (below (bitsOf words)))
