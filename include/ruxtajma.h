@@ -33,6 +33,7 @@
  *  12  base types not ascending                  of an unknown kind or type
  *  13  the extended part                     25  a slot of a bus that is not PCI,
  *                                                or no such device or pin
+ *                                            26  no number is free for an I/O APIC
  */
 #ifndef RUXTAJMA_H
 #define RUXTAJMA_H
@@ -205,6 +206,29 @@ uint64_t ruxtajma_slot_routes(const uint8_t *table, size_t table_length,
  */
 uint64_t ruxtajma_slots(const uint8_t *table, size_t table_length,
                         uint8_t *room, size_t room_length);
+
+/*
+ * New numbers for the I/O APICs: a byte for each enabled one, in table order, from
+ * the room's first byte on, and what lies past them stays.  One that shares an
+ * enabled processor's ID gets the lowest number from 0 to 254 that is free; every
+ * other enabled one keeps its own, and that is free to none.  5 to 18 or 19, 26
+ * where one that needs a number finds none free; or ruxtajma_numbered() bytes were
+ * written, and ruxtajma_used() numbers are in use then, those of the enabled
+ * processors counted.  A room of 255 bytes holds them all.  The table stays as it
+ * is, and routes name the table's numbers.
+ */
+uint64_t ruxtajma_renumber(const uint8_t *table, size_t table_length,
+                           uint8_t *room, size_t room_length);
+
+static inline size_t ruxtajma_numbered(uint64_t answer)
+{
+    return (size_t)(answer >> 16 & 65535);
+}
+
+static inline size_t ruxtajma_used(uint64_t answer)
+{
+    return (size_t)(answer >> 32);
+}
 
 /*
  * Whether a bus sees an address of a kind (0 I/O, 1 memory, 2 prefetch).  5 to 18
