@@ -54,7 +54,7 @@ fn parted(t: &[u8]) -> Answer
 
 pub fn known(kind: u8) -> bool {
     match kind {
-        b'J' | b'D' | b'L' | b'W' | b'T' | b'E' | b'P' | b'I' | b'C' | b'R' | b'S' | b'A' => true,
+        b'J' | b'D' | b'L' | b'W' | b'T' | b'E' | b'P' | b'I' | b'C' | b'R' | b'S' | b'N' | b'A' => true,
         _ => false,
     }
 }
@@ -80,6 +80,7 @@ pub fn call(q: &[u8], a: &mut [u8], m: &[u8], e: &mut [u8]) -> Answer
         b'C' => reply::one(exports::ruxtajma_local_routes(a, x, y, z, e)),
         b'R' => reply::one(exports::ruxtajma_slot_routes(a, x, y, z, e)),
         b'S' => reply::one(exports::ruxtajma_slots(a, e)),
+        b'N' => reply::one(exports::ruxtajma_renumber(a, e)),
         _ => reply::one(exports::ruxtajma_address(a, x, y, request::number(q, 2))),
     }
 }

@@ -4,15 +4,16 @@ use Prim.Native.Nat.{ℕ}
 use mathlib.Core.Path.{_≡_, ap}
 use mathlib.Core.List.{List}
 use Rattle.packs.specs.Packs.{packed}
-use Rattle.mps.specs.Answers.{lentNumbers}
+use Rattle.mps.specs.Answers.{lentNumbers, renumberedNumbers}
 use Rattle.mps.specs.Listing.{listed, listLeft}
 use Rattle.mps.specs.Routes.{Question, routed, routesLeft}
 use Rattle.mps.specs.Slots.{Slot, slotRouted, slotRoutesLeft, slotsListed, slotsLeft}
+use Rattle.mps.specs.Renumber.{renumbered, renumberLeft}
 use Rattle.mps.specs.Edits.{Edit, edited, editLeft}
 use Rattle.mps.specs.declared.Edited.{Edited}
-use Rattle.exports.specs.Codes.{countRow, refusalIn, lentCode, editedCode}
+use Rattle.exports.specs.Codes.{countRow, pairRow, refusalIn, lentCode, renumberedCode, editedCode}
 use Rattle.exports.proofs.Told.{refused-in}
-use Rattle.promises.proofs.Kept.{list-kept, routes-kept, slot-kept, slots-kept}
+use Rattle.promises.proofs.Kept.{list-kept, routes-kept, slot-kept, slots-kept, renumber-kept}
 use Rattle.promises.proofs.Edits.{refused-unchanged}
 
 pub list-kept-c : (d room : List ℕ) → (refusalIn (lentCode (listed d room)) ≡ 0 → ⊥) → listLeft d room ≡ room
@@ -30,6 +31,10 @@ slot-kept-c s t room h = slot-kept s t room (refused-in countRow (lentNumbers (s
 pub slots-kept-c : (t room : List ℕ) → (refusalIn (lentCode (slotsListed t room)) ≡ 0 → ⊥) → slotsLeft t room ≡ room
 unfolding lentCode
 slots-kept-c t room h = slots-kept t room (refused-in countRow (lentNumbers (slotsListed t room)) h)
+
+pub renumber-kept-c : (t room : List ℕ) → (refusalIn (renumberedCode (renumbered t room)) ≡ 0 → ⊥) → renumberLeft t room ≡ room
+unfolding renumberedCode
+renumber-kept-c t room h = renumber-kept t room (refused-in pairRow (renumberedNumbers (renumbered t room)) h)
 
 pub edit-kept-c : (t : List ℕ) (e : Edit) → (refusalIn (editedCode (edited t e)) ≡ 0 → ⊥) → editLeft t e ≡ t
 unfolding editedCode packed

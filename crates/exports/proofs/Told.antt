@@ -12,8 +12,8 @@ use Rattle.packs.proofs.Laws.{taken-packed}
 use Rattle.mps.specs.Words.{any, part, first, head}
 use Rattle.mps.specs.Refusals.{Rule, refusal, innerNumber}
 use Rattle.mps.specs.Rooms.{roomRules, lentRefusal}
-use Rattle.mps.specs.Layout.{baseLength, extendedEnd}
-use Rattle.mps.specs.Answers.{judgedNumbers, judgedOf, heldNumbers, lentNumbers, lentOf, partedNumbers, partedOf}
+use Rattle.mps.specs.Layout.{baseLength, extendedEnd, baseEntries}
+use Rattle.mps.specs.Answers.{judgedNumbers, judgedOf, heldNumbers, lentNumbers, lentOf, partedNumbers, partedOf, renumberedNumbers, renumberedOf}
 use Rattle.mps.specs.Answers.{seenNumbers, seenOf, linksOf, editedNumbers, editedOf, foundNumbers, foundOf}
 use Rattle.mps.specs.Pointer.{isDefault}
 use Rattle.mps.specs.Judge.{tableRules, tableRefusal, pointerRules, dumpRules, dumpRefusal, judged, held}
@@ -23,6 +23,7 @@ use Rattle.mps.specs.Edits.{Edit, editedTable, innerRefusal, editRules, editRef
 use Rattle.mps.specs.Reader.{sizeAt, found}
 use Rattle.mps.specs.Routes.{Question, pairSize, routesOf, lineRules, routeRefusal, routed}
 use Rattle.mps.specs.Slots.{Slot, slotRoutesOf, slotRules, slotRefusal, slotRouted, slotSize, slotsOf, slotsRefusal, slotsListed}
+use Rattle.mps.specs.Renumber.{newNumbersOf, usedNumbers, bitsSet, renumberRules, renumberRefusal, renumbered}
 use Rattle.mps.specs.Addresses.{seenBy, addressRules, seen}
 use Rattle.mps.specs.declared.Held.{Held}
 use Rattle.mps.specs.declared.Held.the-variants.{Default, Table, Refused as Held·Refused}
@@ -43,8 +44,8 @@ use Rattle.slots.proofs.Laws.{slots-most}
 use Rattle.addresses.proofs.Links.{links-most}
 use Rattle.addresses.proofs.Refuses.{ofSeen, seen-by-raised}
 use Rattle.reader.proofs.Laws.{size-most}
-use Rattle.exports.specs.Codes.{countRow, partedRow, seenRow, heldRow, addressesRow, editedRow, coded}
-use Rattle.exports.specs.Codes.{judgedCode, lentCode, foundCode, partedCode, seenCode, editedCode, heldCode, addressesCode}
+use Rattle.exports.specs.Codes.{countRow, pairRow, seenRow, heldRow, addressesRow, editedRow, coded}
+use Rattle.exports.specs.Codes.{judgedCode, lentCode, foundCode, partedCode, renumberedCode, seenCode, editedCode, heldCode, addressesCode}
 use Rattle.exports.specs.Codes.{refusalIn, valuesIn, answered, numbersIn, editedFrom, editedIn, heldFrom, heldIn}
 
 -- ---- Of any code
@@ -168,17 +169,35 @@ entry-told t place b = found-told (sizeAt t place) (size-most t place b)
 
 -- ---- Where the parts of a table stand
 
-parted-told : (n base end : ℕ) → n < 2 ^ 8 → (n ≡ 0 → Fit partedRow (base ∷ end ∷ []))
-    → numbersIn partedRow (partedCode (partedOf n (Parted·Parts base end))) ≡ partedNumbers (partedOf n (Parted·Parts base end))
+parted-told : (n base end : ℕ) → n < 2 ^ 8 → (n ≡ 0 → Fit pairRow (base ∷ end ∷ []))
+    → numbersIn pairRow (partedCode (partedOf n (Parted·Parts base end))) ≡ partedNumbers (partedOf n (Parted·Parts base end))
 unfolding partedCode
-parted-told zero base end h f = answer partedRow (base ∷ end ∷ []) (f refl)
-parted-told (suc n) base end h f = refused partedRow n h
+parted-told zero base end h f = answer pairRow (base ∷ end ∷ []) (f refl)
+parted-told (suc n) base end h f = refused pairRow n h
 
-pub parts-told : (t : List ℕ) → numbersIn partedRow (partedCode (parted t)) ≡ partedNumbers (parted t)
+pub parts-told : (t : List ℕ) → numbersIn pairRow (partedCode (parted t)) ≡ partedNumbers (parted t)
 unfolding parted
 parts-told t =
     parted-told (tableRefusal t) (baseLength t) (extendedEnd t) (table-below t)
     (λ e. let s = sound t e in (omega (arith, s .most), (omega (arith, s .most, s .extended-most), omega arith)))
+
+-- ---- The new numbers
+
+renumbered-told : (n count used : ℕ) → n < 2 ^ 8 → (n ≡ 0 → Fit pairRow (count ∷ used ∷ []))
+    → numbersIn pairRow (renumberedCode (renumberedOf n count used)) ≡ renumberedNumbers (renumberedOf n count used)
+unfolding renumberedCode
+renumbered-told zero count used h f = answer pairRow (count ∷ used ∷ []) (f refl)
+renumbered-told (suc n) count used h f = refused pairRow n h
+
+renumber-below : (t room : List ℕ) → renumberRefusal t room < 2 ^ 8
+unfolding renumberRefusal renumberRules roomRules tableRules any
+renumber-below t room = byte-below _ refl
+
+pub renumber-told : (t room : List ℕ) → Bytes t → numbersIn pairRow (renumberedCode (renumbered t room)) ≡ renumberedNumbers (renumbered t room)
+unfolding renumbered
+renumber-told t room b =
+    renumbered-told (renumberRefusal t room) (length (newNumbersOf t)) (bitsSet (usedNumbers (baseEntries t))) (renumber-below t room)
+    (λ e. (omega (arith, numbers-most t b), (omega (arith, bits-most (usedNumbers (baseEntries t))), omega arith)))
 
 -- ---- What a bus sees: a climb refuses nothing
 

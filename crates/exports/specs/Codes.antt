@@ -7,12 +7,13 @@ use lib.Dec.{eqb}
 use Rattle.packs.specs.Packs.{packed, taken}
 use Rattle.mps.specs.Words.{exactly, only}
 use Rattle.mps.specs.Refusals.{innerNumber}
-use Rattle.mps.specs.Answers.{judgedNumbers, lentNumbers, foundNumbers, partedNumbers, seenNumbers, editedNumbers}
+use Rattle.mps.specs.Answers.{judgedNumbers, lentNumbers, foundNumbers, partedNumbers, renumberedNumbers, seenNumbers, editedNumbers}
 use Rattle.mps.specs.declared.Fields.{Fields}
 use Rattle.mps.specs.declared.Judged.{Judged}
 use Rattle.mps.specs.declared.Lent.{Lent}
 use Rattle.mps.specs.declared.Found.{Found}
 use Rattle.mps.specs.declared.Parted.{Parted}
+use Rattle.mps.specs.declared.Renumbered.{Renumbered}
 use Rattle.mps.specs.declared.Seen.{Seen}
 use Rattle.mps.specs.declared.Edited.{Edited}
 use Rattle.mps.specs.declared.Held.{Held}
@@ -23,8 +24,9 @@ use Rattle.mps.specs.declared.Held.the-variants.{Default, Table, Refused}
 abbrev pub countRow : List ℕ
 countRow = 48 ∷ []
 
-abbrev pub partedRow : List ℕ
-partedRow = 16 ∷ 32 ∷ []
+-- Where the parts of a table end; how many numbers are given, and how many used.
+abbrev pub pairRow : List ℕ
+pairRow = 16 ∷ 32 ∷ []
 
 abbrev pub seenRow : List ℕ
 seenRow = 8 ∷ 40 ∷ []
@@ -56,7 +58,10 @@ unfoldable pub foundCode : Found → ℕ
 foundCode answer = coded countRow (foundNumbers answer)
 
 unfoldable pub partedCode : Parted → ℕ
-partedCode answer = coded partedRow (partedNumbers answer)
+partedCode answer = coded pairRow (partedNumbers answer)
+
+unfoldable pub renumberedCode : Renumbered → ℕ
+renumberedCode answer = coded pairRow (renumberedNumbers answer)
 
 unfoldable pub seenCode : Seen → ℕ
 seenCode answer = coded seenRow (seenNumbers answer)

@@ -3,7 +3,8 @@
 // include/ruxtajma.h has the prototypes, what a caller lends, and how an answer is taken apart. Promised of any bytes: each
 // call answers what the call of the library does, as one number, and leaves what was lent as that call leaves it. Which
 // number stands for an answer is in specs/Codes.antt, a row of widths for each kind; the definitions of the answers stand in
-// mps's specs/Judge.antt, Listing.antt, Writing.antt, Edits.antt, Reader.antt, Routes.antt, Slots.antt and Addresses.antt.
+// mps's specs/Judge.antt, Listing.antt, Writing.antt, Edits.antt, Reader.antt, Routes.antt, Slots.antt, Renumber.antt and
+// Addresses.antt.
 //
 // Nothing is lost: of every answer that a call can give, C takes out the numbers that mps's specs/Answers.antt has for it.
 // proofs/Told.antt proves it, a theorem for each call. A function below cuts each value to its width, and so needs to know
@@ -14,21 +15,23 @@ use mps::Found;
 use mps::Held;
 use mps::Lent;
 use mps::Parted;
+use mps::Renumbered;
 use mps::Seen;
 ghost use mathlib.Core.Path.{_≡_};
-ghost use Prim.Native.Nat.{_-_, _*_, _%_, _^_};
+ghost use Prim.Native.Nat.{_+_, _-_, _*_, _%_, _^_};
 ghost use Rattle.mps.specs.Judge.{judged, held};
 ghost use Rattle.mps.specs.Listing.{listed, listLeft};
 ghost use Rattle.mps.specs.Rules.{ioSide, localSide};
 ghost use Rattle.mps.specs.Routes.{question, routed, routesLeft};
 ghost use Rattle.mps.specs.Slots.{slot, slotRouted, slotRoutesLeft, slotsListed, slotsLeft};
+ghost use Rattle.mps.specs.Renumber.{renumbered, renumberLeft};
 ghost use Rattle.mps.specs.Addresses.{seen};
 ghost use Rattle.mps.specs.Writing.{written, writeLeft, parted};
 ghost use Rattle.mps.specs.Edits.{edited, editLeft};
 ghost use Rattle.mps.specs.Reader.{found};
 ghost use Rattle.writer.specs.Laid.{partsGiven};
 ghost use Rattle.editor.specs.Tested.{editOf};
-ghost use Rattle.exports.specs.Codes.{judgedCode, lentCode, seenCode, editedCode, heldCode, addressesCode, partedCode, foundCode, fieldsGiven};
+ghost use Rattle.exports.specs.Codes.{judgedCode, lentCode, seenCode, editedCode, heldCode, addressesCode, partedCode, renumberedCode, foundCode, fieldsGiven};
 
 // ---- An answer as one number
 
@@ -71,14 +74,28 @@ fn found_code(answer: Found) -> u64
     }
 }
 
+// Two values.
+fn pair(first: usize, second: usize) -> u64
+    ensures { λ r. ⌜ r ≡ 2 ^ 16 * (first % 2 ^ 16 + 2 ^ 16 * (second % 2 ^ 32)) ⌝ }
+{
+    above(first as u64 % TWO_BYTES + TWO_BYTES * (second as u64 % FOUR_BYTES))
+}
+
 fn parted_code(answer: Parted) -> u64
     ensures { λ r. ⌜ r ≡ partedCode answer ⌝ }
 {
     match answer {
-        Parted::Parts { base, end } => {
-            above(base as u64 % TWO_BYTES + TWO_BYTES * (end as u64 % FOUR_BYTES))
-        }
+        Parted::Parts { base, end } => pair(base, end),
         Parted::Refused(n) => n as u64,
+    }
+}
+
+fn renumbered_code(answer: Renumbered) -> u64
+    ensures { λ r. ⌜ r ≡ renumberedCode answer ⌝ }
+{
+    match answer {
+        Renumbered::Given { count, used } => pair(count, used),
+        Renumbered::Refused(n) => n as u64,
     }
 }
 
@@ -240,6 +257,14 @@ pub extern "C" fn ruxtajma_slots(t: &[u8], room: &mut [u8]) -> u64
     ensures { λ _. ⌜ now (room .exit) ≡ slotsLeft (now (t .entry)) (now (room .entry)) ⌝ }
 {
     lent_code(slots::list(t, room))
+}
+
+#[no_mangle]
+pub extern "C" fn ruxtajma_renumber(t: &[u8], room: &mut [u8]) -> u64
+    ensures { λ r. ⌜ r ≡ renumberedCode (renumbered (now (t .entry)) (now (room .entry))) ⌝ }
+    ensures { λ _. ⌜ now (room .exit) ≡ renumberLeft (now (t .entry)) (now (room .entry)) ⌝ }
+{
+    renumbered_code(renumbering::renumber(t, room))
 }
 
 #[no_mangle]

@@ -12,7 +12,6 @@ unfolding partedCode packed
 parted-code-spec =
     tie.close
     (tie.spec
-    (λ c. search needs) (λ c. search needs) (λ c. search needs) (λ c κs. search needs) (λ c. search needs)
-    (λ c. search needs)
-    (λ c. code-is partedCode (c .before .before .answer .given .1) (omega arith))
+    (λ c. search needs) (λ c κs. search needs) (λ c. search needs) (λ c. search needs)
+    (λ c. code-is partedCode (c .before .before .answer .given .1) (omega (arith, c .pair .ensures)))
     (λ c. code-is partedCode (c .before .answer2 .given .1) (omega arith)))
