@@ -6,7 +6,7 @@ use mathlib.Core.List.{List}
 use native.Mathlib.Omega.{arith}
 use lib.ListN.{length}
 use lib.Dec.{eqb}
-use Rattle.mps.specs.Words.{among, any, each, every, twice, common, keep}
+use Rattle.mps.specs.Words.{among, any, each, every, twice, keep}
 use Rattle.mps.specs.Layout.{Entry, ofType, processorType, ioApicType, mappingType, modifierType, everyone, enabled, localApic, localApicStep, extendedBus, baseEntries, extendedEntries}
 use Rattle.mps.specs.Rules.{enabledOf, enabledIds, bootstraps, misplaced, wrongProcessors, wrongIoApics, wrongMapping, wrongHierarchy, wrongModifier, links, circle, wrongSpaces}
 use Rattle.mps.specs.Judge.{tableRules, tableRefusal}
@@ -14,25 +14,28 @@ use Rattle.laws.proofs.Tests.{or-parts}
 use Rattle.laws.proofs.Refusals.{refusal-pass}
 use Rattle.accepted.proofs.Sound.{sound, sound-rest}
 
--- No two enabled processors have one ID,
-processors-apart : (t : List ℕ) → wrongProcessors t ≡ false → twice (enabledIds processorType (baseEntries t)) ≡ false
-unfolding wrongProcessors
-processors-apart t e =
-    let es = baseEntries t in
-    or-parts
-    (not (eqb (localApic t % localApicStep) 0)
-    || not (eqb (length (bootstraps es)) 1)
-    || not (every enabled (bootstraps es))
-    || among everyone (enabledIds processorType es)) (twice (enabledIds processorType es)) e .1
+-- IDs of which each names one: none of them all, and no two the same.
+abbrev Named : List ℕ → Type 0
+Named ids = (among everyone ids ≡ false) × (twice ids ≡ false)
 
--- and no two enabled I/O APICs.
-ioapics-apart : (es : List Entry) → wrongIoApics es ≡ false → twice (enabledIds ioApicType es) ≡ false
+-- Such are those of the enabled processors,
+processors-named : (t : List ℕ) → wrongProcessors t ≡ false → Named (enabledIds processorType (baseEntries t))
+unfolding wrongProcessors
+processors-named t e =
+    let es = baseEntries t in
+    let ids = enabledIds processorType es in
+    let boots =
+    not (eqb (localApic t % localApicStep) 0) || not (eqb (length (bootstraps es)) 1) || not (every enabled (bootstraps es)) in
+    let once = or-parts (boots || among everyone ids) (twice ids) e in
+    (or-parts boots (among everyone ids) (once .0) .1, once .1)
+
+-- and those of the enabled I/O APICs.
+ioapics-named : (es : List Entry) → wrongIoApics es ≡ false → Named (enabledIds ioApicType es)
 unfolding wrongIoApics
-ioapics-apart es e =
+ioapics-named es e =
     let ids = enabledIds ioApicType es in
-    let placed = or-parts (among everyone ids || twice ids || common ids (enabledIds processorType es)) (any misplaced (enabledOf ioApicType es)) e in
-    let shared = or-parts (among everyone ids || twice ids) (common ids (enabledIds processorType es)) (placed .0) in
-    or-parts (among everyone ids) (twice ids) (shared .0) .1
+    let placed = or-parts (among everyone ids || twice ids) (any misplaced (enabledOf ioApicType es)) e in
+    or-parts (among everyone ids) (twice ids) (placed .0)
 
 -- Every bus has at most one parent, which is listed, and no bus is above itself.
 pub record OneParent (es xs : List Entry) : Type 0 where
@@ -54,7 +57,9 @@ spaces-one-parent es xs e =
 
 pub record Obeyed (t : List ℕ) : Type 0 where
   pub processors : twice (enabledIds processorType (baseEntries t)) ≡ false
+  pub processors-own : among everyone (enabledIds processorType (baseEntries t)) ≡ false
   pub ioapics : twice (enabledIds ioApicType (baseEntries t)) ≡ false
+  pub ioapics-own : among everyone (enabledIds ioApicType (baseEntries t)) ≡ false
   pub parents : OneParent (baseEntries t) (extendedEntries t)
 
 pub obeyed : (t : List ℕ) → tableRefusal t ≡ 0 → Obeyed t
@@ -66,7 +71,9 @@ obeyed t e =
     let seventeen = refusal-pass 17 _ _ (omega arith) (sixteen .1) in
     let eighteen = refusal-pass 18 _ _ (omega arith) (seventeen .1) in
     record {
-      processors = processors-apart t (fourteen .0);
-      ioapics = ioapics-apart (baseEntries t) (sixteen .0);
+      processors = processors-named t (fourteen .0) .1;
+      processors-own = processors-named t (fourteen .0) .0;
+      ioapics = ioapics-named (baseEntries t) (sixteen .0) .1;
+      ioapics-own = ioapics-named (baseEntries t) (sixteen .0) .0;
       parents = spaces-one-parent (baseEntries t) (extendedEntries t) (eighteen .0);
     }

@@ -8,18 +8,18 @@ use native.Mathlib.Nat.{div-one, zero-add}
 use lib.Dec.{eqb}
 use lib.ListN.{length, getD, take, drop}
 use borrow.Author.Tests.{eq-eqb, ne-eqb, eqb-true, eqb-false}
-use Rattle.mps.specs.Words.{bit, part, among, twice, common, any, every, keep, each}
+use Rattle.mps.specs.Words.{bit, part, among, twice, any, every, keep, each}
 use Rattle.mps.specs.Numbers.{le}
 use Rattle.mps.specs.Layout.{Entry, idOf, enabled, bootstrap, everyone}
 use Rattle.mps.specs.Rules.{misplaced}
 use Rattle.mps.specs.Sections.{rows}
-use Rattle.laws.proofs.Tests.{eqb-comm, whether, same-test, or-parts, or-four}
+use Rattle.laws.proofs.Tests.{eqb-comm, whether, same-test, or-parts}
 use Rattle.laws.proofs.Lists.{keep-in, keep-out, any-keep}
 use Rattle.laws.proofs.Rows.{rows-done, rows-next, row-byte}
 use Rattle.laws.proofs.Small.{Small, small-keep, below-each}
 use Rattle.roll.specs.Roll.{marked, withMarks, Shows}
-use Rattle.roll.specs.Calls.{wrongOne, called}
-use Rattle.roll.proofs.Laws.{called-stop-at, called-next-at, called-wrong, called-marks, called-all, called-other, any-shows}
+use Rattle.roll.specs.Calls.{Call, wrongOne, called}
+use Rattle.roll.proofs.Laws.{called-stop-at, called-next-at, claimed, called-wrong, called-all, called-other, any-shows}
 use Rattle.apics.specs.Apics.{processorCall, ioApicCall, wrongProcessorsIn}
 
 -- ---- The flags of a row are those of the slice
@@ -33,12 +33,12 @@ module _ (n : ℕ) (s : List ℕ) (at : ℕ) (f : 4 ≤ n) where
   unfolding bit
   row-bootstrap = rw (row-byte n s at 3 (omega arith))
 
--- The marks that an entry puts: bit 1 beside its own where it is enabled.
-marks-by : (own f : ℕ) → own + f % 2 * 2 ≡ cond (eqb (f % 2) 1) (own + 2) own
-marks-by own f =
+-- The marks that an entry puts: one more beside its own where it is enabled.
+marks-by : (own more f : ℕ) → own + f % 2 * more ≡ cond (eqb (f % 2) 1) (own + more) own
+marks-by own more f =
     whether (eqb (f % 2) 1)
-    (λ on. let odd = eqb-true (f % 2) 1 on in rw (on, odd))
-    (λ off. let even = eqb-false (f % 2) 1 off in rw off (omega (arith, even)))
+    (λ on. let odd = eqb-true (f % 2) 1 on in rw (on, odd) (omega arith))
+    (λ off. let odd = eqb-false (f % 2) 1 off in let even : f % 2 ≡ 0 = omega (arith, odd) in rw (off, even) (omega arith))
 
 -- ---- A processor at a place of a slice
 
@@ -73,7 +73,7 @@ module _ (roll e : List ℕ) where
   unfolding wrongOne ioApicCall bit
   io-off z = rw (div-one, ne-eqb (getD e 3 0 % 2) 1 (λ q. omega (arith, q, z)))
 
-  module _ (n : getD e 3 0 % 2 ≡ 0 → ⊥) {b : Bool} (t : b ≡ marked 1 roll (getD e 1 0)) where
+  module _ (n : getD e 3 0 % 2 ≡ 0 → ⊥) {b : Bool} (t : b ≡ marked 4 roll (getD e 1 0)) where
     pub io-taken : b ≡ true → true ≡ wrongOne ioApicCall roll e
     unfolding wrongOne ioApicCall
     io-taken y = rw (on n, ← t, y)
@@ -92,7 +92,7 @@ module _ (roll s : List ℕ) (at : ℕ) (h : at ≤ length s) where
   unfolding processorCall
   processor-next r w n e =
       called-next-at processorCall roll 20 s at h (omega arith) r (sym w ∙ n)
-      (e ∙ rw (row-enabled 20 s at (omega arith), row-byte 20 s at 1 (omega arith), marks-by 1 (getD s (at + 3) 0)))
+      (e ∙ rw (row-enabled 20 s at (omega arith), row-byte 20 s at 1 (omega arith), marks-by 1 2 (getD s (at + 3) 0)))
 
   -- The row of eight bytes as it is lent.
   module _ (r : 8 ≤ length s - at) where
@@ -106,12 +106,12 @@ module _ (roll s : List ℕ) (at : ℕ) (h : at ≤ length s) where
 
     pub io-next :
         {next : List ℕ} {b : Bool} → b ≡ wrongOne ioApicCall roll (part at (at + 8) s) → b ≡ false
-        → next ≡ withMarks (4 + getD (part at (at + 8) s) 3 0 % 2 * 2) roll (getD (part at (at + 8) s) 1 0)
+        → next ≡ withMarks (4 + getD (part at (at + 8) s) 3 0 % 2 * 16) roll (getD (part at (at + 8) s) 1 0)
         → called ioApicCall roll (rows 8 (drop at s)) ≡ called ioApicCall next (rows 8 (drop (at + 8) s))
     unfolding ioApicCall bit
     io-next w n e =
         called-next-at ioApicCall roll 8 s at h (omega arith) r (rw lent at (sym w ∙ n))
-        (e ∙ rw (lent, marks-by 4 (getD (take 8 (drop at s)) 3 0), div-one))
+        (e ∙ rw (lent, marks-by 4 16 (getD (take 8 (drop at s)) 3 0), div-one))
 
 -- ---- How many bootstrap processors there are
 
@@ -150,11 +150,11 @@ module _ (roll₀ : List ℕ) (ps : List Entry) {roll : List ℕ} where
 
 -- ---- In the words of the rules
 
--- Whether some ID of a list is 255 or one of those of another.
-any-taken : (cs ids : List ℕ) → any (λ (y : ℕ). among y cs || eqb y everyone) ids ≡ (common ids cs || among everyone ids)
-unfolding any common among
-any-taken cs [] = refl
-any-taken cs (x ∷ ids) = rw (any-taken cs ids, eqb-comm x everyone) (or-four (among x cs) (eqb everyone x) (common ids cs) (among everyone ids))
+-- Whether some ID of a list is 255.
+any-everyone : (ids : List ℕ) → any (λ (y : ℕ). eqb y everyone) ids ≡ among everyone ids
+unfolding any among
+any-everyone [] = refl
+any-everyone (x ∷ ids) = rw (any-everyone ids, eqb-comm x everyone)
 
 -- Whether a bootstrap processor is disabled.
 boot-off : (ps : List Entry) → any (λ (e : Entry). bootstrap e && not (enabled e)) ps ≡ not (every enabled (keep bootstrap ps))
@@ -179,39 +179,35 @@ cpu-order : (a t b n : Bool) → (((a || t) || b) || n) ≡ (((n || b) || a) || 
 cpu-order a t b n =
     or-comm ((a || t) || b) n ∙ ap (λ (x : Bool). n || x) (or-comm (a || t) b) ∙ sym (or-assoc n b (a || t)) ∙ sym (or-assoc (n || b) a t)
 
-io-order : (c a t m : Bool) → (((c || a) || t) || m) ≡ (((a || t) || c) || m)
-io-order c a t m = ap (λ (x : Bool). x || m) (or-assoc c a t ∙ or-comm c (a || t))
-
-common-none : (ids : List ℕ) → common ids [] ≡ false
-unfolding common among
-common-none [] = refl
-common-none (x ∷ ids) = common-none ids
-
--- Entries of bytes, over a roll where 255 is taken, and the IDs of cs are.
+-- Entries of bytes, over a roll where 255 alone is taken: some ID that is claimed is 255 or claimed twice, or an entry is wrong by
+-- itself.
 module _ (roll : List ℕ) (size : length roll ≡ 256) (es : List Entry) (small : Small es) where
   -- The IDs of those that are enabled.
   abbrev ids : List ℕ
   ids = each idOf (keep enabled es)
 
-  taken-or : (cs : List ℕ) → Shows 1 roll (λ (y : ℕ). among y cs || eqb y everyone) → any (marked 1 roll) ids ≡ (common ids cs || among everyone ids)
-  taken-or cs taken = any-shows 1 roll _ taken ids (below-each 1 (small-keep enabled small)) ∙ any-taken cs ids
+  kind-wrong :
+      (c : Call) → ((e : Entry) → bit (c .by) (c .marks e) ≡ c .claims e) → Shows (c .by) roll (λ (y : ℕ). eqb y everyone)
+      → called c roll es .wrong ≡ (among everyone (claimed c es) || twice (claimed c es) || any (c .bad) es)
+  kind-wrong c shows taken =
+      let below = below-each 1 (small-keep (c .claims) small) in
+      rw (called-wrong c shows roll size es small, any-shows (c .by) roll _ taken (claimed c es) below, any-everyone (claimed c es))
 
   pub cpus-wrong :
-      Shows 1 roll (λ (y : ℕ). among y [] || eqb y everyone)
+      Shows 1 roll (λ (y : ℕ). eqb y everyone)
       → wrongProcessorsIn roll es
       ≡ (not (eqb (length (keep bootstrap es)) 1) || not (every enabled (keep bootstrap es)) || among everyone ids || twice ids)
   unfolding wrongProcessorsIn processorCall bit
   cpus-wrong taken =
-      rw (called-wrong processorCall (λ (e : Entry). bit-on 1 3 1 refl refl (enabled e)) roll size es small, taken-or [] taken, common-none ids, boot-off es)
+      rw (kind-wrong processorCall (λ (e : Entry). bit-on 1 3 1 refl refl (enabled e)) taken, boot-off es)
       (cpu-order (among everyone ids) (twice ids) (not (every enabled (keep bootstrap es))) (not (eqb (length (keep bootstrap es)) 1)))
 
   pub ios-wrong :
-      (cs : List ℕ) → Shows 1 roll (λ (y : ℕ). among y cs || eqb y everyone)
-      → called ioApicCall roll es .wrong ≡ (among everyone ids || twice ids || common ids cs || any misplaced (keep enabled es))
+      Shows 4 roll (λ (y : ℕ). eqb y everyone)
+      → called ioApicCall roll es .wrong ≡ (among everyone ids || twice ids || any misplaced (keep enabled es))
   unfolding ioApicCall bit
-  ios-wrong cs taken =
-      rw (called-wrong ioApicCall (λ (e : Entry). bit-on 1 6 4 refl refl (enabled e)) roll size es small, taken-or cs taken, ← any-keep misplaced enabled es)
-      (io-order (common ids cs) (among everyone ids) (twice ids) (any misplaced (keep enabled es)))
+  ios-wrong taken =
+      rw (kind-wrong ioApicCall (λ (e : Entry). bit-on 4 20 4 refl refl (enabled e)) taken, ← any-keep misplaced enabled es)
 
 -- The roll behind processors of which none is wrong.
 module _ (roll : List ℕ) (size : length roll ≡ 256) (es : List Entry) (fine : wrongProcessorsIn roll es ≡ false) (y : ℕ) (h : y < 256) where
@@ -226,10 +222,6 @@ module _ (roll : List ℕ) (size : length roll ≡ 256) (es : List Entry) (fine 
   unfolding processorCall bit
   cpus-listed = called-all processorCall 0 roll es passed y place (λ (e : Entry). bit-same 0 3 1 refl refl (enabled e))
 
-  pub cpus-taken : marked 1 (called processorCall roll es .roll) y ≡ (among y (each idOf (keep enabled es)) || marked 1 roll y)
-  unfolding processorCall bit
-  cpus-taken = called-marks processorCall 1 enabled (λ (e : Entry). bit-on 1 3 1 refl refl (enabled e)) roll es passed y place
-
   -- A bit that processors do not put.
   pub cpus-keep : (j : ℕ) → bit j 3 ≡ false → bit j 1 ≡ false → marked j (called processorCall roll es .roll) y ≡ marked j roll y
   unfolding processorCall
@@ -239,9 +231,9 @@ module _ (roll : List ℕ) (size : length roll ≡ 256) (es : List Entry) (fine 
 module _ (roll : List ℕ) (size : length roll ≡ 256) (es : List Entry) (fine : called ioApicCall roll es .wrong ≡ false) (y : ℕ) (h : y < 256) where
   pub ios-listed : marked 2 (called ioApicCall roll es .roll) y ≡ (among y (each idOf es) || marked 2 roll y)
   unfolding ioApicCall bit
-  ios-listed = called-all ioApicCall 2 roll es fine y (rw size h) (λ (e : Entry). bit-same 2 6 4 refl refl (enabled e))
+  ios-listed = called-all ioApicCall 2 roll es fine y (rw size h) (λ (e : Entry). bit-same 2 20 4 refl refl (enabled e))
 
   -- A bit that I/O APICs do not put.
-  pub ios-keep : (j : ℕ) → bit j 6 ≡ false → bit j 4 ≡ false → marked j (called ioApicCall roll es .roll) y ≡ marked j roll y
+  pub ios-keep : (j : ℕ) → bit j 20 ≡ false → bit j 4 ≡ false → marked j (called ioApicCall roll es .roll) y ≡ marked j roll y
   unfolding ioApicCall
-  ios-keep j p q = called-other ioApicCall j roll es fine y (rw size h) (λ (e : Entry). bit-same j 6 4 p q (enabled e))
+  ios-keep j p q = called-other ioApicCall j roll es fine y (rw size h) (λ (e : Entry). bit-same j 20 4 p q (enabled e))

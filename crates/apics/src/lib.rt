@@ -42,7 +42,7 @@ pub fn wrong_processors(roll: &mut [u8; 256], s: &[u8]) -> bool
     boots != 1
 }
 
-// An enabled one whose ID is taken, or that stands at address 0 or at no multiple of 1,024.
+// An enabled one whose ID is taken (a processor's is not, by that alone), or that stands at address 0 or at no multiple of 1,024.
 fn wrong_io_apic(e: &[u8], roll: &[u8; 256]) -> bool
     requires { ⌜ length (now e) ≡ entrySize ⌝ }
     ensures { λ r. ⌜ r ≡ wrongOne ioApicCall (now (roll .entry)) (now (e .entry)) ⌝ }
@@ -50,7 +50,7 @@ fn wrong_io_apic(e: &[u8], roll: &[u8; 256]) -> bool
     if e[layout::APIC_FLAGS] % 2 == 0 {
         return false;
     }
-    if roll::has(roll, e[layout::ENTRY_ID], roll::TAKEN) {
+    if roll::has(roll, e[layout::ENTRY_ID], roll::IO_TAKEN) {
         return true;
     }
     let address = numbers::le32(e, layout::IO_APIC_ADDRESS);
@@ -68,7 +68,7 @@ pub fn wrong_io_apics(roll: &mut [u8; 256], s: &[u8]) -> bool
         if wrong_io_apic(e, roll) {
             return true;
         }
-        let marks = roll::IO_APIC_MARK + e[layout::APIC_FLAGS] % 2 * roll::TAKEN_MARK;
+        let marks = roll::IO_APIC_MARK + e[layout::APIC_FLAGS] % 2 * roll::IO_TAKEN_MARK;
         roll::put(roll, e[layout::ENTRY_ID], marks);
         at += layout::ENTRY_SIZE;
     }

@@ -2,7 +2,7 @@
 -- Computing with the definitions: `unfolding computed` opens every definition of mps at once, so that a claim over closed
 -- bytes is settled by computing both sides. What a definition's own `unfolding` line names is opened with it.
 use Prim.Native.Nat.{ℕ}
-use Rattle.mps.specs.Words.{text, bit, same, among, twice, common, keep, any, every, each, joined, rising, cut, exactly}
+use Rattle.mps.specs.Words.{text, bit, same, among, twice, keep, any, every, each, joined, rising, cut, exactly}
 use Rattle.mps.specs.Refusals.{refusal}
 use Rattle.mps.specs.Rooms.{tooSmall, roomRules, lentRefusal, lentLeft, roomRefusal, fitted, fitLeft}
 use Rattle.mps.specs.Sums.{total, sum256, toStore}
@@ -18,6 +18,7 @@ use Rattle.mps.specs.Sections.{rows, span, baseAfter, extendedAfter, sections}
 use Rattle.mps.specs.Judge.{tableRules, tableRefusal, pointerRules, dumpRules, dumpRefusal, judged, examined, told, pointed, held}
 use Rattle.mps.specs.Routes.{asked, matches, names, pair, pairsTo, routes, routesOf, wrongLine, lineRules, routeRefusal, routed, routesLeft}
 use Rattle.mps.specs.Slots.{namesSlot, isPci, pciBuses, onPci, wiredFrom, slotRoutes, slotRoutesOf, wrongSlot, slotRules, slotRefusal, slotRouted, slotRoutesLeft, slotNamed, slots, slotsOf, slotsRefusal, slotsListed, slotsLeft}
+use Rattle.mps.specs.Renumber.{shares, keptIds, free, lowestFree, numbersFrom, findsNone, heldIds, newNumbers, noneFree, usedNumbers, bitsSet, newNumbersOf, renumberRules, renumberRefusal, renumbered, renumberLeft}
 use Rattle.mps.specs.Addresses.{covers, touches, takesAway, adds, coversOrAdds, hasEntry, subtractive, says, climb, seenBy, wrongSpace, addressRules, seen}
 use Rattle.mps.specs.Listing.{digits, decimalDigit, hexDigit, decimalWidth, decimal, hex, line, unpadded, onOff, bootAp, interruptName, cpuLine, busLine, ioApicLine, interruptLine, baseLine, mapLine, treeLine, modLine, skipLine, extendedLine, defaultLine, pointerLine, tableLine, endLine, tableLines, listing, refusedLine, programOutput, listRefusal, listed, listLeft, printed, printLeft}
 use Rattle.mps.specs.Writing.{fieldsOf, partsOf, parted, header, extendedSumOf, baseSumOf, image, partRules, earlyRefusal, writeRefusal, written, finished, writeLeft}
@@ -25,7 +26,7 @@ use Rattle.mps.specs.Edits.{standing, before, offsetOf, sealed, editedTable, no
 use Rattle.mps.specs.Reader.{baseStep, extendedStep, sizeAt, entryAt, nextPlace, found}
 
 ofWords : ℕ
-unfolding text bit same among twice common keep any every each joined rising cut exactly
+unfolding text bit same among twice keep any every each joined rising cut exactly
 ofWords = 0
 
 ofRefusals : ℕ
@@ -88,6 +89,10 @@ ofSlots : ℕ
 unfolding namesSlot isPci pciBuses onPci wiredFrom slotRoutes slotRoutesOf wrongSlot slotRules slotRefusal slotRouted slotRoutesLeft slotNamed slots slotsOf slotsRefusal slotsListed slotsLeft
 ofSlots = 0
 
+ofRenumber : ℕ
+unfolding shares keptIds free lowestFree numbersFrom findsNone heldIds newNumbers noneFree usedNumbers bitsSet newNumbersOf renumberRules renumberRefusal renumbered renumberLeft
+ofRenumber = 0
+
 ofAddresses : ℕ
 unfolding covers touches takesAway adds coversOrAdds hasEntry subtractive says climb seenBy wrongSpace addressRules seen
 ofAddresses = 0
@@ -109,5 +114,5 @@ unfolding baseStep extendedStep sizeAt entryAt nextPlace found
 ofReader = 0
 
 unfoldable pub computed : ℕ
-unfolding ofWords ofRefusals ofRooms ofSums ofNumbers ofLayout ofBuses ofRanges ofDump ofPointer ofTable ofRules ofSections ofJudge ofRoutes ofSlots ofAddresses ofListing ofWriting ofEdits ofReader
+unfolding ofWords ofRefusals ofRooms ofSums ofNumbers ofLayout ofBuses ofRanges ofDump ofPointer ofTable ofRules ofSections ofJudge ofRoutes ofSlots ofRenumber ofAddresses ofListing ofWriting ofEdits ofReader
 computed = 0

@@ -3,7 +3,7 @@
 use Prim.Native.Nat.{ℕ, _%_, _<_}
 use mathlib.Core.Path.{_≡_, refl, sym, _∙_}
 use mathlib.Core.Bool.{Bool, true, false, not, _||_, _&&_, or-true, or-false, or-assoc, and-true, and-false}
-use mathlib.Core.List.{List, []}
+use mathlib.Core.List.{List}
 use lib.ListN.{length, replicate, length-replicate}
 use lib.Dec.{eqb}
 use Rattle.mps.specs.Words.{part, bit, among, twice, keep, any, every, each}
@@ -14,11 +14,11 @@ use Rattle.mps.specs.Rules.{wrongMapping, wrongHierarchy, wrongModifier, wrongS
 use Rattle.mps.specs.Sections.{rows}
 use Rattle.mps.specs.declared.Sections.{Sections}
 use Rattle.laws.proofs.Small.{Small, bytes-part, small-cut, small-base, small-keep, small-rows, any-same, any-or}
-use Rattle.roll.specs.Roll.{marked, withMarks}
+use Rattle.roll.specs.Roll.{marked, withMarks, Shows}
 use Rattle.roll.specs.Calls.{called}
 use Rattle.roll.proofs.Laws.{length-marks, marked-put, marked-none, length-called}
 use Rattle.apics.specs.Apics.{processorCall, ioApicCall, wrongProcessorsIn}
-use Rattle.apics.proofs.Laws.{cpus-wrong, cpus-listed, cpus-taken, cpus-keep, ios-wrong, ios-listed, ios-keep}
+use Rattle.apics.proofs.Laws.{cpus-wrong, cpus-listed, cpus-keep, ios-wrong, ios-listed, ios-keep}
 use Rattle.buses.specs.Buses.{busCall}
 use Rattle.buses.proofs.Laws.{buses-wrong, buses-listed, buses-keep}
 use Rattle.interrupts.specs.Interrupts.{wrongInterruptIn}
@@ -28,25 +28,29 @@ use Rattle.spaces.proofs.Laws.{wrong-mapping-in, wrong-modifier-in}
 use Rattle.parents.specs.Parents.{wrongLinks}
 use Rattle.parents.proofs.Laws.{wrong-links-in}
 use Rattle.judge.specs.Placed.{Placed}
-use Rattle.judge.specs.Rolled.{nobody, listed, taken, Rolled, Named}
+use Rattle.judge.specs.Rolled.{nobody, listed, reserved, Rolled, Named}
 
--- ---- The roll that the judge begins with: 255 is taken, and nothing else is in it
+-- ---- The roll that the judge begins with: 255 is taken of both kinds, and nothing else is in it
 
 abbrev started : List ℕ
-started = withMarks 2 (replicate 256 0) everyone
+started = withMarks 18 (replicate 256 0) everyone
 
-begins : (j y : ℕ) → y < 256 → marked j started y ≡ (eqb y everyone && bit j 2)
+begins : (j y : ℕ) → y < 256 → marked j started y ≡ (eqb y everyone && bit j 18)
 begins j y h =
-    marked-put j 2 (replicate 256 0) everyone y (rw (length-replicate {A = ℕ} 256 0) h)
-    ∙ rw (marked-none j 256 y) (or-false (eqb y everyone && bit j 2))
+    marked-put j 18 (replicate 256 0) everyone y (rw (length-replicate {A = ℕ} 256 0) h)
+    ∙ rw (marked-none j 256 y) (or-false (eqb y everyone && bit j 18))
 
-pub starts : Rolled started nobody (λ (y : ℕ). among y [] || eqb y everyone) nobody nobody
-unfolding bit among
+started-taken : Shows 1 started reserved
+unfolding bit
+started-taken y h = begins 1 y h ∙ and-true (eqb y everyone)
+
+pub starts : Rolled started nobody nobody
+unfolding bit
 starts = record {
-  size = length-marks 2 (replicate 256 0) everyone ∙ length-replicate {A = ℕ} 256 0;
+  size = length-marks 18 (replicate 256 0) everyone ∙ length-replicate {A = ℕ} 256 0;
   cpus-shown = λ y h. begins 0 y h ∙ and-false (eqb y everyone);
-  claimed-shown = λ y h. begins 1 y h ∙ and-true (eqb y everyone);
   ioapics-shown = λ y h. begins 2 y h ∙ and-false (eqb y everyone);
+  io-taken-shown = λ y h. begins 4 y h ∙ and-true (eqb y everyone);
   buses-shown = λ y h. begins 3 y h ∙ and-false (eqb y everyone);
 }
 
@@ -84,29 +88,29 @@ module _ (t : List ℕ) (p : Sections) (h : Placed t p) where
   rule-14 =
       let boots = bootstraps (baseEntries t) in
       let ids = enabledIds processorType (baseEntries t) in
-      rw (cpus-wrong started (starts .size) (rows 20 processorBytes) (small-rows 20 processorBytes (bytes-part headerSize (p .buses) t (h .bytes))) (starts .claimed-shown), ← h .processors)
+      rw (cpus-wrong started (starts .size) (rows 20 processorBytes) (small-rows 20 processorBytes (bytes-part headerSize (p .buses) t (h .bytes))) started-taken, ← h .processors)
       (five (not (eqb (localApic t % localApicStep) 0)) (not (eqb (length boots) 1)) (not (every enabled boots)) (among everyone ids) (twice ids))
 
   module _ (fine : wrongProcessorsIn started (rows 20 processorBytes) ≡ false) where
     abbrev cpusRoll : List ℕ
     cpusRoll = called processorCall started (rows 20 processorBytes) .roll
 
-    pub next-14 : Rolled cpusRoll (listed processorType t) (taken t) nobody nobody
-    unfolding idsOf enabledIds enabledOf among bit
+    pub next-14 : Rolled cpusRoll (listed processorType t) nobody
+    unfolding idsOf bit
     next-14 =
         let es = rows 20 processorBytes in
         record {
           size = length-called processorCall started es ∙ starts .size;
           cpus-shown = λ y b.
               cpus-listed started (starts .size) es fine y b ∙ rw (starts .cpus-shown y b, ← h .processors) (or-false _);
-          claimed-shown = λ y b. cpus-taken started (starts .size) es fine y b ∙ rw (starts .claimed-shown y b, ← h .processors);
           ioapics-shown = λ y b. cpus-keep started (starts .size) es fine y b 2 refl refl ∙ starts .ioapics-shown y b;
+          io-taken-shown = λ y b. cpus-keep started (starts .size) es fine y b 4 refl refl ∙ starts .io-taken-shown y b;
           buses-shown = λ y b. cpus-keep started (starts .size) es fine y b 3 refl refl ∙ starts .buses-shown y b;
         }
 
   -- ---- 15
 
-  module _ {roll : List ℕ} (r : Rolled roll (listed processorType t) (taken t) nobody nobody) where
+  module _ {roll : List ℕ} (r : Rolled roll (listed processorType t) nobody) where
     pub rule-15 : wrongBuses (baseEntries t) ≡ called busCall roll (rows 8 busBytes) .wrong
     unfolding wrongBuses idsOf
     rule-15 =
@@ -115,24 +119,24 @@ module _ (t : List ℕ) (p : Sections) (h : Placed t p) where
 
     pub next-15 :
         called busCall roll (rows 8 busBytes) .wrong ≡ false
-        → Rolled (called busCall roll (rows 8 busBytes) .roll) (listed processorType t) (taken t) nobody (listed busType t)
+        → Rolled (called busCall roll (rows 8 busBytes) .roll) (listed processorType t) (listed busType t)
     unfolding idsOf bit
     next-15 fine = record {
       size = length-called busCall roll (rows 8 busBytes) ∙ r .size;
       cpus-shown = λ y b. buses-keep roll (r .size) (rows 8 busBytes) fine y b 0 refl ∙ r .cpus-shown y b;
-      claimed-shown = λ y b. buses-keep roll (r .size) (rows 8 busBytes) fine y b 1 refl ∙ r .claimed-shown y b;
       ioapics-shown = λ y b. buses-keep roll (r .size) (rows 8 busBytes) fine y b 2 refl ∙ r .ioapics-shown y b;
+      io-taken-shown = λ y b. buses-keep roll (r .size) (rows 8 busBytes) fine y b 4 refl ∙ r .io-taken-shown y b;
       buses-shown = λ y b. buses-listed roll (r .size) (rows 8 busBytes) fine y b (r .buses-shown) ∙ rw (← h .buses);
     }
 
   -- ---- 16
 
-  module _ {roll : List ℕ} (r : Rolled roll (listed processorType t) (taken t) nobody (listed busType t)) where
+  module _ {roll : List ℕ} (r : Rolled roll (listed processorType t) (listed busType t)) where
     pub rule-16 : wrongIoApics (baseEntries t) ≡ called ioApicCall roll (rows 8 apicBytes) .wrong
     unfolding wrongIoApics enabledIds enabledOf
     rule-16 =
         let small = small-rows 8 apicBytes (bytes-part (p .ioapics) (p .interrupts) t (h .bytes)) in
-        sym (ios-wrong roll (r .size) (rows 8 apicBytes) small (enabledIds processorType (baseEntries t)) (r .claimed-shown) ∙ rw (← h .ioapics))
+        sym (ios-wrong roll (r .size) (rows 8 apicBytes) small (r .io-taken-shown) ∙ rw (← h .ioapics))
 
     module _ (fine : called ioApicCall roll (rows 8 apicBytes) .wrong ≡ false) where
       abbrev ioRoll : List ℕ

@@ -20,7 +20,7 @@ use Rattle.interrupts.specs.Interrupts.{wrongInterruptIn}
 use Rattle.spaces.specs.Spaces.{wrongMappingIn, wrongModifierIn}
 use Rattle.parents.specs.Parents.{wrongLinks}
 use Rattle.judge.specs.Placed.{Placed}
-use Rattle.judge.specs.Rolled.{nobody, listed, taken, Rolled, Named}
+use Rattle.judge.specs.Rolled.{nobody, listed, Rolled, Named}
 use Rattle.judge.specs.Stages.{from14, from15, from16, from17, from18}
 use Rattle.judge.proofs.Rules.{rule-14, next-14, rule-15, next-15, rule-16, next-16, rule-17, rule-18}
 
@@ -65,7 +65,7 @@ module _ {t : List ℕ} {p : Sections} (h : Placed t p) where
 
   -- ---- 16
 
-  module _ {roll : List ℕ} (r : Rolled roll (listed processorType t) (taken t) nobody (listed busType t))
+  module _ {roll : List ℕ} (r : Rolled roll (listed processorType t) (listed busType t))
       {b : Bool} (e : b ≡ called ioApicCall roll (rows 8 (part (p .ioapics) (p .interrupts) t)) .wrong) where
     pub by-apic : b ≡ true → 16 ≡ refusal (from16 t)
     unfolding tableRules from14 from15 from16 from17 from18
@@ -82,7 +82,7 @@ module _ {t : List ℕ} {p : Sections} (h : Placed t p) where
 
   -- ---- 15
 
-  module _ {roll : List ℕ} (r : Rolled roll (listed processorType t) (taken t) nobody nobody)
+  module _ {roll : List ℕ} (r : Rolled roll (listed processorType t) nobody)
       {b : Bool} (e : b ≡ called busCall roll (rows 8 (part (p .buses) (p .ioapics) t)) .wrong) where
     pub by-bus : b ≡ true → 15 ≡ refusal (from15 t)
     unfolding tableRules from14 from15 from16 from17 from18
@@ -94,7 +94,7 @@ module _ {t : List ℕ} {p : Sections} (h : Placed t p) where
 
     pub roll-15 :
         b ≡ false → {next : List ℕ} → next ≡ called busCall roll (rows 8 (part (p .buses) (p .ioapics) t)) .roll
-        → Rolled next (listed processorType t) (taken t) nobody (listed busType t)
+        → Rolled next (listed processorType t) (listed busType t)
     roll-15 n f = rw f (next-15 t p h r (sym e ∙ n))
 
   -- ---- 14
@@ -104,7 +104,7 @@ module _ {t : List ℕ} {p : Sections} (h : Placed t p) where
     unfolding tableRules from14 from15 from16 from17 from18
     by-local-apic n = sym (refusal-stop 14 (from15 t) (rule-14 t p h ∙ rw (← ex, ne-eqb (x % localApicStep) 0 n)))
 
-    module _ {roll : List ℕ} (s : roll ≡ withMarks 2 (replicate 256 0) everyone)
+    module _ {roll : List ℕ} (s : roll ≡ withMarks 18 (replicate 256 0) everyone)
         {b : Bool} (e : b ≡ wrongProcessorsIn roll (rows 20 (part headerSize (p .buses) t))) where
       pub by-processor : b ≡ true → 14 ≡ refusal (from14 t)
       unfolding tableRules from14 from15 from16 from17 from18
@@ -116,5 +116,5 @@ module _ {t : List ℕ} {p : Sections} (h : Placed t p) where
 
       pub roll-14 :
           b ≡ false → {next : List ℕ} → next ≡ called processorCall roll (rows 20 (part headerSize (p .buses) t)) .roll
-          → Rolled next (listed processorType t) (taken t) nobody nobody
+          → Rolled next (listed processorType t) nobody
       roll-14 n f = rw (f, s) (next-14 t p h (rw s at (sym e ∙ n)))

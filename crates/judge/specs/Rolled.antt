@@ -7,8 +7,8 @@ use lib.ListN.{length}
 use lib.Dec.{eqb}
 use Rattle.mps.specs.Words.{among}
 use Rattle.mps.specs.Layout.{processorType, busType, ioApicType, everyone, baseEntries}
-use Rattle.mps.specs.Rules.{idsOf, enabledIds}
-use Rattle.roll.specs.Roll.{processorBit, takenBit, ioApicBit, busBit, Shows}
+use Rattle.mps.specs.Rules.{idsOf}
+use Rattle.roll.specs.Roll.{processorBit, ioApicBit, busBit, ioTakenBit, Shows}
 
 -- ---- IDs
 
@@ -19,9 +19,9 @@ nobody y = false
 abbrev pub listed : ℕ → List ℕ → ℕ → Bool
 listed n t y = among y (idsOf n (baseEntries t))
 
--- Those that no enabled I/O APIC may have: those of enabled processors, and 255.
-abbrev pub taken : List ℕ → ℕ → Bool
-taken t y = among y (enabledIds processorType (baseEntries t)) || eqb y everyone
+-- The one that no enabled APIC may have.
+abbrev pub reserved : ℕ → Bool
+reserved y = eqb y everyone
 
 -- Those that a destination may name.
 abbrev pub named : ℕ → List ℕ → ℕ → Bool
@@ -29,12 +29,13 @@ named n t y = eqb y everyone || listed n t y
 
 -- ---- The roll
 
--- Between two of the rules 14 to 16: at which IDs the bits of processors, of taken IDs, of I/O APICs and of buses are set.
-pub record Rolled (roll : List ℕ) (cpus claimed ioapics buses : ℕ → Bool) : Type 0 where
+-- Between two of the rules 14 to 16: at which IDs the bits of processors and of buses are set. I/O APICs are not called yet, and
+-- of their kind 255 alone is taken. Nothing asks any more which IDs enabled processors have.
+pub record Rolled (roll : List ℕ) (cpus buses : ℕ → Bool) : Type 0 where
   pub size : length roll ≡ 256
   pub cpus-shown : Shows processorBit roll cpus
-  pub claimed-shown : Shows takenBit roll claimed
-  pub ioapics-shown : Shows ioApicBit roll ioapics
+  pub ioapics-shown : Shows ioApicBit roll nobody
+  pub io-taken-shown : Shows ioTakenBit roll reserved
   pub buses-shown : Shows busBit roll buses
 
 -- Behind 16: which IDs 17 and 18 may find named. Nothing asks any more which are taken.

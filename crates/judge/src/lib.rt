@@ -20,7 +20,7 @@ ghost use Rattle.mps.specs.Refusals.{refusal as refusalOf};
 ghost use Rattle.mps.specs.Judge.{tableRefusal, judged, examined};
 ghost use Rattle.judge.specs.Placed.{Placed};
 ghost use Rattle.judge.specs.Stages.{from14, from15, from16, from17, from18, Walked, Ready};
-ghost use Rattle.judge.specs.Rolled.{nobody, listed, taken, Rolled, Named};
+ghost use Rattle.judge.specs.Rolled.{nobody, listed, Rolled, Named};
 
 pub fn judge(t: &[u8]) -> Judged
     ensures { λ r. ⌜ r ≡ judged (now (t .entry)) ⌝ }
@@ -124,7 +124,8 @@ fn behind_walks(t: &[u8], p: Sections) -> Examined
     Examined::Accepted(p)
 }
 
-// 14: the processors, and the local APIC address of the header. 255 is taken from the start: no enabled APIC may have it.
+// 14: the processors, and the local APIC address of the header. 255 is taken from the start: no enabled APIC may have it,
+// of either kind.
 fn from_14(t: &[u8], p: Sections) -> u8
     requires { ⌜ Placed (now t) p ⌝ }
     ensures { λ r. ⌜ r ≡ refusalOf (from14 (now (t .entry))) ⌝ }
@@ -134,7 +135,7 @@ fn from_14(t: &[u8], p: Sections) -> u8
         return 14;
     }
     let mut roll: [u8; 256] = [0; 256];
-    roll::put(&mut roll, layout::EVERYONE, roll::TAKEN_MARK);
+    roll::put(&mut roll, layout::EVERYONE, roll::TAKEN_MARKS);
     if apics::wrong_processors(&mut roll, &t[layout::HEADER_SIZE..end]) {
         return 14;
     }
@@ -144,7 +145,7 @@ fn from_14(t: &[u8], p: Sections) -> u8
 // 15: the buses.
 fn from_15(t: &[u8], p: Sections, roll: &mut [u8; 256]) -> u8
     requires { ⌜ Placed (now t) p ⌝ }
-    requires { ⌜ Rolled (now roll) (listed processorType (now t)) (taken (now t)) nobody nobody ⌝ }
+    requires { ⌜ Rolled (now roll) (listed processorType (now t)) nobody ⌝ }
     ensures { λ r. ⌜ r ≡ refusalOf (from15 (now (t .entry))) ⌝ }
 {
     let start = p.buses;
@@ -158,7 +159,7 @@ fn from_15(t: &[u8], p: Sections, roll: &mut [u8; 256]) -> u8
 // 16: the I/O APICs. Behind them 255 is as good a destination as a processor or an I/O APIC that is listed: it names all.
 fn from_16(t: &[u8], p: Sections, roll: &mut [u8; 256]) -> u8
     requires { ⌜ Placed (now t) p ⌝ }
-    requires { ⌜ Rolled (now roll) (listed processorType (now t)) (taken (now t)) nobody (listed busType (now t)) ⌝ }
+    requires { ⌜ Rolled (now roll) (listed processorType (now t)) (listed busType (now t)) ⌝ }
     ensures { λ r. ⌜ r ≡ refusalOf (from16 (now (t .entry))) ⌝ }
 {
     let start = p.ioapics;

@@ -6,7 +6,7 @@ use mathlib.Core.Bool.{Bool, false, not, _||_}
 use mathlib.Core.List.{List, [], _∷_}
 use lib.ListN.{length}
 use lib.Dec.{ltb, eqb}
-use Rattle.mps.specs.Words.{among, twice, common, keep, any, every, each}
+use Rattle.mps.specs.Words.{among, twice, keep, any, every, each}
 use Rattle.mps.specs.Buses.{isBusName}
 use Rattle.mps.specs.Layout.{Entry, ofType, processorType, busType, ioApicType, ioInterruptType, localInterruptType}
 use Rattle.mps.specs.Layout.{localApicStep, ioApicStep, spaceEnd, idOf, enabled, bootstrap, nameOf, addressOf, localApic, baseEntries, everyone}
@@ -57,12 +57,13 @@ wrongBuses es = twice (idsOf busType es) || any unknownName (keep (ofType busTyp
 unfoldable pub misplaced : Entry → Bool
 misplaced e = eqb (addressOf e) 0 || not (eqb (addressOf e % ioApicStep) 0)
 
--- "enabled I/O APIC: ID 255, ID of another enabled I/O APIC or enabled processor, address 0 or not a multiple of 1,024"
+-- "enabled I/O APIC: ID 255, ID of another enabled I/O APIC or enabled processor, address 0 or not a multiple of 1,024", without
+-- the processor: document 02, ask 2, "an ID shared with an enabled processor is no longer a fault; two enabled I/O APICs with one
+-- ID still are".
 unfoldable pub wrongIoApics : List Entry → Bool
 wrongIoApics es =
     among everyone (enabledIds ioApicType es)
     || twice (enabledIds ioApicType es)
-    || common (enabledIds ioApicType es) (enabledIds processorType es)
     || any misplaced (enabledOf ioApicType es)
 
 -- ---- 17

@@ -41,11 +41,6 @@ unfoldable pub twice : List ℕ → Bool
 twice [] = false
 twice (x ∷ xs) = among x xs || twice xs
 
--- Whether two lists have a number in common.
-unfoldable pub common : List ℕ → List ℕ → Bool
-common [] ys = false
-common (x ∷ xs) ys = among x ys || common xs ys
-
 -- Whether a number lies between two, both counted.
 abbrev pub within : ℕ → ℕ → ℕ → Bool
 within low high n = leb low n && leb n high

@@ -1,26 +1,24 @@
 -- Demand 2: "The listing, the routes and the addresses seen by a bus are those the table declares", of the routes: a pair is
 -- in the answer exactly when two entries of the table declare it, and the pairs stand in the order of the table. The numbers
 -- of a route query, "given exactly when". Assumes nothing.
-use Prim.Native.Nat.{ℕ, _*_, _%_, _<_}
-use mathlib.Core.Path.{_≡_, refl, sym, _∙_}
-use mathlib.Core.Bool.{false, not, _||_}
+use Prim.Native.Nat.{ℕ, _*_, _<_}
+use mathlib.Core.Path.{_≡_, refl}
+use mathlib.Core.Bool.{false}
 use mathlib.Core.Logic.{_↔_}
 use mathlib.Core.List.{List, [], _∷_, _++_}
 use native.Mathlib.Omega.{arith}
 use lib.ListN.{length, drop}
-use lib.Dec.{eqb}
-use Rattle.mps.specs.Words.{among, any, every, each, twice, common}
-use Rattle.mps.specs.Layout.{Entry, processorType, ioApicType, everyone, localApicStep, localApic, enabled, baseEntries}
-use Rattle.mps.specs.Rules.{ioSide, localSide, enabledOf, enabledIds, bootstraps, misplaced, wrongProcessors, wrongIoApics}
+use Rattle.mps.specs.Words.{among, any, each}
+use Rattle.mps.specs.Layout.{Entry, processorType, ioApicType, everyone, baseEntries}
+use Rattle.mps.specs.Rules.{ioSide, localSide}
 use Rattle.mps.specs.Judge.{tableRules, tableRefusal}
 use Rattle.mps.specs.Refusals.{_when_}
 use Rattle.mps.specs.Rooms.{tooSmall, roomRules, lentRefusal}
 use Rattle.mps.specs.Routes.{Question, question, matches, pairSize, routes, routesOf, wrongLine, lineRules, routeRefusal, routed, routesLeft}
 use Rattle.mps.specs.declared.Lent.the-variants.{Count}
-use Rattle.laws.proofs.Tests.{or-parts}
-use Rattle.laws.proofs.Refusals.{so, refusal-pass, refusal-none, given-before, given-exactly}
+use Rattle.laws.proofs.Refusals.{so, refusal-none, given-before, given-exactly}
 use Rattle.laws.proofs.Lent.{lent-19}
-use Rattle.accepted.proofs.Sound.{sound, sound-rest}
+use Rattle.accepted.proofs.Obeyed.{obeyed}
 use Rattle.promises.specs.Declared.{declared, Route, Stands}
 use Rattle.promises.proofs.Given.{Exactly}
 use Rattle.promises.proofs.Pairs.{pairs-declared, pairs-count, pairs-in-order, pairs-exactly, no-everyone}
@@ -53,30 +51,12 @@ module _ (q : Question) (t room : List ℕ) {n : ℕ} (r : routed q t room ≡ C
 
 -- ---- "255 names all": no enabled APIC of an accepted table has that ID, so it stands in no pair
 
--- 14 and 16: "ID 255" is refused.
-pub own-ids :
-    (t : List ℕ) → tableRefusal t ≡ 0
-    → (among everyone (enabledIds processorType (baseEntries t)) ≡ false) × (among everyone (enabledIds ioApicType (baseEntries t)) ≡ false)
-unfolding tableRules wrongProcessors wrongIoApics
-own-ids t a =
-    let es = baseEntries t in
-    let fourteen = refusal-pass 14 _ _ (omega arith) (sym (sound-rest t (sound t a)) ∙ a) in
-    let fifteen = refusal-pass 15 _ _ (omega arith) (fourteen .1) in
-    let sixteen = refusal-pass 16 _ _ (omega arith) (fifteen .1) in
-    let ids = enabledIds ioApicType es in
-    let boots =
-    not (eqb (localApic t % localApicStep) 0) || not (eqb (length (bootstraps es)) 1) || not (every enabled (bootstraps es)) in
-    let once = or-parts (boots || among everyone (enabledIds processorType es)) (twice (enabledIds processorType es)) (fourteen .0) in
-    let placed = or-parts (among everyone ids || twice ids || common ids (enabledIds processorType es)) (any misplaced (enabledOf ioApicType es)) (sixteen .0) in
-    let shared = or-parts (among everyone ids || twice ids) (common ids (enabledIds processorType es)) (placed .0) in
-    (or-parts boots (among everyone (enabledIds processorType es)) (once .0) .1, or-parts (among everyone ids) (twice ids) (shared .0) .0)
-
 module _ (t : List ℕ) (a : tableRefusal t ≡ 0) (itype bus irq id into : ℕ) where
   pub io-never-255 : Route (question ioSide itype bus irq) (baseEntries t) id into → id ≡ everyone → ⊥
-  io-never-255 = no-everyone (matches (question ioSide itype bus irq)) ioApicType (baseEntries t) (own-ids t a .1) id into
+  io-never-255 = no-everyone (matches (question ioSide itype bus irq)) ioApicType (baseEntries t) (obeyed t a .ioapics-own) id into
 
   pub local-never-255 : Route (question localSide itype bus irq) (baseEntries t) id into → id ≡ everyone → ⊥
-  local-never-255 = no-everyone (matches (question localSide itype bus irq)) processorType (baseEntries t) (own-ids t a .0) id into
+  local-never-255 = no-everyone (matches (question localSide itype bus irq)) processorType (baseEntries t) (obeyed t a .processors-own) id into
 
 -- ---- The numbers
 

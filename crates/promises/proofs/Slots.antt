@@ -23,11 +23,11 @@ use Rattle.laws.proofs.Tests.{or-parts}
 use Rattle.laws.proofs.Lists.{any-append}
 use Rattle.laws.proofs.Refusals.{so, refusal-none, given-before, given-exactly}
 use Rattle.laws.proofs.Lent.{lent-19}
+use Rattle.accepted.proofs.Obeyed.{obeyed}
 use Rattle.promises.specs.Declared.{slotDeclared, SlotRoute, Stands}
 use Rattle.promises.specs.Slots.{SlotAnswered}
 use Rattle.promises.proofs.Given.{Exactly, given-none}
 use Rattle.promises.proofs.Pairs.{pairs-declared, pairs-count, pairs-in-order, pairs-exactly, no-everyone}
-use Rattle.promises.proofs.Routes.{own-ids}
 
 -- ---- The pairs
 
@@ -60,7 +60,7 @@ module _ (s : Slot) (t room : List ℕ) {n : ℕ} (r : slotRouted s t room ≡ C
 -- "255 names all": the ID is the I/O APIC's own.
 pub slot-never-255 :
     (s : Slot) (t : List ℕ) → tableRefusal t ≡ 0 → (id into : ℕ) → SlotRoute s (baseEntries t) id into → id ≡ everyone → ⊥
-slot-never-255 s t a = no-everyone (wiredFrom s) ioApicType (baseEntries t) (own-ids t a .1)
+slot-never-255 s t a = no-everyone (wiredFrom s) ioApicType (baseEntries t) (obeyed t a .ioapics-own)
 
 -- ---- The numbers: "Refusals: 25, bus listed but not PCI, or device or pin out of range, after 24 and before 19."
 

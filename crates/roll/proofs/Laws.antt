@@ -174,7 +174,7 @@ module _ (c : Call) (shows : (e : Entry) → bit (c .by) (c .marks e) ≡ c .cla
 
 -- Where none is, the roll has the marks of every entry: bit j at the IDs of those that put it, and where it was.
 module _ (c : Call) (j : ℕ) (puts : Entry → Bool) (shows : (e : Entry) → bit j (c .marks e) ≡ puts e) where
-  pub called-marks :
+  called-marks :
       (roll : List ℕ) (es : List Entry) → called c roll es .wrong ≡ false → (y : ℕ) → y < length roll
       → marked j (called c roll es .roll) y ≡ (among y (each idOf (keep puts es)) || marked j roll y)
   unfolding called keep each among

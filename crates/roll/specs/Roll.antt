@@ -13,7 +13,7 @@ use Rattle.mps.specs.Words.{bit, among}
 abbrev pub processorBit : ℕ
 processorBit = 0
 
--- An enabled APIC has it, or none may.
+-- An enabled processor has it, or none may; on the roll of a route query, an enabled APIC of the side that is asked.
 abbrev pub takenBit : ℕ
 takenBit = 1
 
@@ -24,6 +24,10 @@ ioApicBit = 2
 -- A bus has it.
 abbrev pub busBit : ℕ
 busBit = 3
+
+-- An enabled I/O APIC has it, or none may.
+abbrev pub ioTakenBit : ℕ
+ioTakenBit = 4
 
 -- The number that has one bit.
 abbrev pub mark : ℕ → ℕ

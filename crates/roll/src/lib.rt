@@ -13,11 +13,13 @@ ghost use Rattle.roll.specs.Roll.{marked, withMarks};
 
 pub const PROCESSOR: u8 = 0; // a processor has the ID, enabled or not
 
-pub const TAKEN: u8 = 1; // an enabled APIC has it, or none may
+pub const TAKEN: u8 = 1; // an enabled processor has it, or none may; in a route query, an enabled APIC of the side
 
 pub const IO_APIC: u8 = 2; // an I/O APIC has it, enabled or not
 
 pub const BUS: u8 = 3; // a bus has it
+
+pub const IO_TAKEN: u8 = 4; // an enabled I/O APIC has it, or none may
 
 // The numbers that have one of them, or two.
 
@@ -29,7 +31,11 @@ pub const IO_APIC_MARK: u8 = 4;
 
 pub const BUS_MARK: u8 = 8;
 
+pub const IO_TAKEN_MARK: u8 = 16;
+
 pub const APIC_MARKS: u8 = 5; // of a processor and of an I/O APIC
+
+pub const TAKEN_MARKS: u8 = 18; // of enabled ones of both kinds
 
 // Whether a bit is set at an ID. There are eight bits: from 8 on they are counted anew.
 pub fn has(roll: &[u8; 256], id: u8, k: u8) -> bool
