@@ -14,3 +14,5 @@ pub mod Small
 pub mod Refusals
 pub mod Circle
 pub mod Lent
+pub mod Counting
+pub mod Renumber
