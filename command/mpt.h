@@ -104,6 +104,7 @@ int entries(const struct call *call);
 int routes(const struct call *call);
 int slots(const struct call *call);
 int slot(const struct call *call);
+int renumber(const struct call *call);
 int sees(const struct call *call);
 int edit(const struct call *call);
 int parts(const struct call *call);

@@ -26,7 +26,7 @@ static const char *const says[] = {
     "the extended part: its length, its sum, or the form of its entries",
     "the processors (one enabled boot processor, no enabled ID 255 or twice) or the local APIC address",
     "the buses: an ID twice, or an unknown name",
-    "an enabled I/O APIC: ID 255 or taken, address 0 or no multiple of 1,024",
+    "an enabled I/O APIC: ID 255 or that of another one, address 0 or no multiple of 1,024",
     "an interrupt: its type, polarity or trigger, or a bus, APIC or local input that is not there",
     "an extended entry: a bus not listed, a wrong kind, range or list, a second link, a circle",
     "the answer is longer than the room for it",
@@ -36,6 +36,7 @@ static const char *const says[] = {
     "the edited table would be refused",
     "a bus that is not listed, or no such kind or type",
     "no such PCI slot: the bus is not PCI, or it has no such device or pin",
+    "no number is free for an I/O APIC that has a processor's: all of 0 to 254 are in use",
 };
 
 /* Wrong words of the user's. */
