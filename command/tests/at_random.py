@@ -17,7 +17,7 @@ from boards import BENCH, RICH, base_entries, edited, pointer, put
 
 SEED = int(sys.argv[2]) if len(sys.argv) > 2 else 1
 COUNT = int(sys.argv[3]) if len(sys.argv) > 3 else 1000
-VERBS = "list judge table entries routes slots slot sees edit parts make dump log".split()
+VERBS = "list judge table entries routes slots slot renumber sees edit parts make dump log".split()
 FIELDS = "id version enabled boot signature features name address type polarity trigger bus irq destination input".split()
 VALUES = ["0", "1", "2", "3", "9", "255", "256", "on", "off", "INT", "extint", "PCI", "ISA", "EISA", "FEC00000", "0x10", "-1", "",
           "FFFFFFFF", "XPRESSX"]
@@ -155,6 +155,7 @@ class Any(harness.Case):
             "slots": lambda: ["slots", self.name(".table")],
             "slot": lambda: ["slot", self.name(".table"), chance.choice(NUMBERS), chance.choice(NUMBERS),
                              chance.choice(["A", "b", "INTC#", "E", *NUMBERS])],
+            "renumber": lambda: ["renumber", self.name(".table")],
             "sees": lambda: ["sees", self.name(".table"), chance.choice(NUMBERS), chance.choice(["io", "memory", "prefetch", *NUMBERS]),
                              chance.choice(ADDRESSES)],
             "edit": self.edit_words,

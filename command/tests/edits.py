@@ -79,7 +79,7 @@ class BenchBoard(harness.Case):
     def test_23(self):
         for place, wanted, inner in ((0, "0000100112050000" + "00" * 12, 14), (0, "0000100212050000" + "00" * 12, 14),
                                      (1, "0101495341202020", 17), (1, "0100585858202020", 15), (2, "02021101000000FE", None),
-                                     (2, "0200110100 00C0FE".replace(" ", ""), 16), (2, "0202110100000000", 16),
+                                     (2, "02FF11010000C0FE", 16), (2, "0202110100000000", 16),
                                      (3, "0300000001010201", 17), (3, "0304000000010201", 17), (3, "0300020000010201", 17),
                                      (4, "040300000000FF02", 17)):
             stated = base_entries(BENCH)[place].hex()
@@ -207,6 +207,7 @@ SET = [
     (4, "enabled=0", "02 02 11 F0 00 00 C0 FE"),
     (5, "enabled=on", "02 03 11 01 00 10 C0 FE"),
     (5, "enabled=1", "02 03 11 01 00 10 C0 FE"),
+    (5, "id=1 enabled=on", "02 01 11 01 00 10 C0 FE"),  # processor 1's
     (4, "address=FEC20000", "02 02 11 F1 00 00 C2 FE"),
     (4, "address=0x400", "02 02 11 F1 00 04 00 00"),
     (6, "type=NMI", "03 01 F0 EE 00 01 02 01"),
@@ -229,7 +230,7 @@ SET = [
 ]
 # Entry, words, and the number that the table then would be refused with.
 SET_REFUSED = [(0, "boot=off", 14), (1, "boot=on", 14), (0, "enabled=off", 14), (1, "id=0", 14), (1, "id=255", 14),
-               (3, "id=0", 15), (3, "name=USB", 15), (3, "name=pci", 15), (4, "address=0", 16), (4, "id=255", 16), (4, "id=1", 16),
+               (3, "id=0", 15), (3, "name=USB", 15), (3, "name=pci", 15), (4, "address=0", 16), (4, "id=255", 16), (5, "id=2 enabled=on", 16),
                (6, "polarity=2", 17), (6, "trigger=2", 17), (6, "bus=9", 17), (6, "destination=9", 17), (7, "input=2", 17)]
 
 

@@ -17,8 +17,8 @@ MEGABYTES = 64 * 1024 * 1024
 def readers(name):
     """Each verb that reads a file, with a file of this name."""
     return [["list", name], ["judge", name], ["judge", "--table", name], ["judge", "--dump", name], ["table", name], ["entries", name],
-            ["routes", name, "INT", "0", "1"], ["slots", name], ["slot", name, "0", "4", "A"], ["sees", name, "0", "io", "100"], ["parts", name],
-            ["make", name], ["dump", "--memory", name], ["dump", "--region", f"rom:F0000:{name}"]]
+            ["routes", name, "INT", "0", "1"], ["slots", name], ["slot", name, "0", "4", "A"], ["renumber", name],
+            ["sees", name, "0", "io", "100"], ["parts", name], ["make", name], ["dump", "--memory", name], ["dump", "--region", f"rom:F0000:{name}"]]
 
 
 def writers(name):
@@ -149,7 +149,7 @@ class NoPlainFile(harness.Case):
     def test_dev_null(self):
         """It reads as no bytes."""
         for words, number in ((["list"], 1), (["judge"], 1), (["judge", "--table"], 5), (["table"], 1), (["entries"], 5), (["slots"], 5),
-                              (["parts"], 5)):
+                              (["renumber"], 5), (["parts"], 5)):
             self.refuses([*words, "/dev/null"], number)
             self.refuses([*words, "-"], number)
         self.refuses(["routes", "/dev/null", "INT", "0", "1"], 5)
@@ -204,7 +204,7 @@ class Sizes(harness.Case):
     def test_no_bytes(self):
         self.put("empty", b"")
         for words, number in ((["list"], 1), (["judge"], 1), (["judge", "--dump"], 1), (["judge", "--table"], 5), (["table"], 1),
-                              (["entries"], 5), (["slots"], 5), (["parts"], 5)):
+                              (["entries"], 5), (["slots"], 5), (["renumber"], 5), (["parts"], 5)):
             self.refuses([*words, "empty"], number)
         self.refuses(["routes", "empty", "INT", "0", "1"], 5)
         self.refuses(["slot", "empty", "0", "4", "A"], 5)
@@ -235,7 +235,7 @@ class Sizes(harness.Case):
             self.assertRegex(self.mpt("judge", "board.table").out, rb"\Aaccepted: a table of 96 bytes\b")
             self.answers(["routes", "--io", "board.table", "INT", "0", "1"], "ioapic 2 input 1\n")
         path = self.sparse("board.table", BENCH, MEGABYTES + 1)
-        for words in (["entries"], ["slots"], ["parts"], ["make"], ["dump", "--memory"]):
+        for words in (["entries"], ["slots"], ["renumber"], ["parts"], ["make"], ["dump", "--memory"]):
             with self.subTest(words):
                 self.assertRegex(self.wrong([*words, "board.table"]).err, rb"\Ampt: board.table: \S")
         # judge needs no more than the beginning of a file to tell (DECISIONS 117).

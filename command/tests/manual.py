@@ -7,7 +7,7 @@ import re
 import harness
 
 # The verbs of the plan.
-VERBS = set("list judge table entries routes slots slot sees edit parts make dump log".split())
+VERBS = set("list judge table entries routes slots slot renumber sees edit parts make dump log".split())
 OPTIONS = {"judge": ["--table", "--dump"], "table": ["-o"], "routes": ["--io", "--local"], "edit": ["--set"], "parts": ["-o"], "make": ["-o"],
            "dump": ["--memory", "--region", "-o"], "log": ["--check"]}
 

@@ -83,8 +83,8 @@ class FullOrClosed(harness.Case):
 
     LINES = [["list", "board.dump"], ["list", "bad.dump"], ["judge", "board.table"], ["table", "board.dump"], ["entries", "board.table"],
              ["routes", "board.table", "INT", "0", "1"], ["slots", "board.table"], ["slot", "board.table", "0", "4", "A"],
-             ["sees", "board.table", "0", "io", "100"], ["parts", "board.table"], ["dump", "--memory", "board.image"], ["log", "board.table"],
-             ["--help"], ["list", "--help"], ["--version"]]
+             ["renumber", "board.table"], ["sees", "board.table", "0", "io", "100"], ["parts", "board.table"],
+             ["dump", "--memory", "board.image"], ["log", "board.table"], ["--help"], ["list", "--help"], ["--version"]]
 
     def setUp(self):
         super().setUp()

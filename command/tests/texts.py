@@ -154,7 +154,7 @@ class Made(harness.Case):
         for number, base, extended in (
                 (14, [], []), (10, [cpu0, bytes([5]) + bytes(7)], []), (12, [isa, cpu0], []),
                 (13, [cpu0, isa], [bytes([129, 2])]), (14, [cpu0, cpu0], []), (15, [cpu0, isa, isa], []),
-                (16, [cpu0, isa, boards.ioapic(0)], []), (17, [cpu0, isa, apic, boards.put(irq, 4, 9)], []),
+                (16, [cpu0, isa, apic, apic], []), (17, [cpu0, isa, apic, boards.put(irq, 4, 9)], []),
                 (18, [cpu0, isa], [boards.link(0, 9)])):
             with self.subTest(number):
                 self.put("board.txt", with_entries(base, extended))

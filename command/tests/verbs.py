@@ -104,11 +104,12 @@ class Judged(harness.Case):
                 (10, boards.table([cpu0, bytes([5]) + bytes(7)])), (11, boards.table(boards.BENCH_ENTRIES, count=4)),
                 (12, boards.table([isa, cpu0])), (13, boards.table(boards.BENCH_ENTRIES, byte42=1)),
                 (14, boards.table([])), (14, boards.table(boards.BENCH_ENTRIES, apic=0xFEE00001)),
-                (15, boards.table([cpu0, isa, isa])), (16, boards.table([cpu0, isa, boards.ioapic(0)])),
+                (15, boards.table([cpu0, isa, isa])), (16, boards.table([cpu0, isa, apic, apic])),
+                (16, boards.table([cpu0, isa, boards.ioapic(255)])),
                 (17, boards.table([cpu0, isa, apic, irq, put(lint, 7, 2)])),
                 (18, boards.table([cpu0, isa], [boards.link(0, 0)]))):
             self.put("bad.table", content)
-            for verb in (["judge"], ["judge", "--table"], ["entries"], ["slots"], ["parts"]):
+            for verb in (["judge"], ["judge", "--table"], ["entries"], ["slots"], ["renumber"], ["parts"]):
                 with self.subTest(number=number, verb=verb):
                     self.refuses([*verb, "bad.table"], number)
             with self.subTest(number=number):

@@ -19,6 +19,7 @@ GOOD = [
     ["routes", "--io", "board.table", "INT", "0", "1"],
     ["slots", "board.table"],
     ["slot", "pci.table", "1", "1", "A"],
+    ["renumber", "board.table"],
     ["sees", "board.table", "0", "io", "100"],
     ["edit", "board.table", "3", STATED, WANTED],
     ["edit", "board.table", "3", STATED, "--set", "input=9"],
