@@ -8,3 +8,4 @@ pub mod Agree
 pub mod Sealed
 pub mod Shaped
 pub mod Replaced
+pub mod Numbering

@@ -9,8 +9,8 @@ use lib.ListN.{length}
 use lib.Dec.{eqb}
 use borrow.Author.Tests.{ne-eqb, eq-eqb, eqb-true}
 use Rattle.mps.specs.Words.{byte, among, twice, keep, rising, below}
-use Rattle.laws.proofs.Tests.{whether, eqb-comm, or-parts, or-swap, or-four}
-use Rattle.laws.proofs.Lists.{among-first, among-rest, at-among, keep-in, keep-out, keep-nothing}
+use Rattle.laws.proofs.Tests.{whether, contrary, eqb-comm, or-parts, or-swap, or-four}
+use Rattle.laws.proofs.Lists.{among-none, among-first, among-rest, among-cases, at-among, keep-in, keep-out, keep-nothing}
 use Rattle.laws.proofs.Rising.{length-rising, keep-rising, keep-more}
 
 -- ---- A test and its contrary
@@ -70,6 +70,38 @@ apart-places (x ∷ xs) d zero (suc j) h k e =
     false≢true (sym (or-parts (among x xs) (twice xs) d .0) ∙ rw e (at-among xs j (omega arith)))
 apart-places (x ∷ xs) d (suc i) (suc j) h k e =
     apart-places xs (or-parts (among x xs) (twice xs) d .1) i j (omega arith) (omega arith) e
+
+-- Those of them that pass a test are apart,
+pub among-kept : (p : ℕ → Bool) (x : ℕ) (xs : List ℕ) → among x (keep p xs) ≡ true → (among x xs ≡ true) × (p x ≡ true)
+unfolding keep
+among-kept p x [] a = absurd (among-none x a)
+among-kept p x (y ∷ xs) a =
+    whether (p y)
+    (λ t. among-cases x y (keep p xs) (rw (keep-in p y xs t) at a)
+    (λ q. (among-first x y xs q, rw q t))
+    (λ b. let r = among-kept p x xs b in (among-rest x y xs (r .0), r .1)))
+    (λ f. let r = among-kept p x xs (rw (keep-out p y xs f) at a) in (among-rest x y xs (r .0), r .1))
+
+pub apart-kept : (p : ℕ → Bool) (xs : List ℕ) → twice xs ≡ false → twice (keep p xs) ≡ false
+unfolding keep twice
+apart-kept p [] d = refl
+apart-kept p (x ∷ xs) d =
+    let h = or-parts (among x xs) (twice xs) d in
+    whether (p x)
+    (λ t. rw (keep-in p x xs t) (rw (contrary _ _ (λ a. among-kept p x xs a .0) (h .0)) (apart-kept p xs (h .1))))
+    (λ f. rw (keep-out p x xs f) (apart-kept p xs (h .1)))
+
+-- and so are two lists of such that have no number in common.
+pub apart-append : (a b : List ℕ) → twice a ≡ false → twice b ≡ false → ((z : ℕ) → among z b ≡ true → among z a ≡ false)
+    → twice (a ++ b) ≡ false
+unfolding twice among
+apart-append [] b d e f = e
+apart-append (x ∷ a) b d e f =
+    let h = or-parts (among x a) (twice a) d in
+    let none : among x b ≡ false =
+    whether (among x b) (λ t. absurd (false≢true (sym (f x t) ∙ among-first x x a refl))) (λ g. g) in
+    rw (among-append x a b, h .0, none)
+    (apart-append a b (h .1) e (λ z t. or-parts (eqb z x) (among z a) (f z t) .1))
 
 -- Of a range they are as many as there are of them.
 pub apart-count : (n : ℕ) (xs : List ℕ) → twice xs ≡ false → Below n xs

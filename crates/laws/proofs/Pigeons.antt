@@ -41,7 +41,7 @@ apart-most xs ys f d =
 
 -- ---- Bytes
 
-among-byte : (xs : List ℕ) → Bytes xs → (x : ℕ) → among x xs ≡ true → x < 256
+pub among-byte : (xs : List ℕ) → Bytes xs → (x : ℕ) → among x xs ≡ true → x < 256
 among-byte [] b x a = absurd (among-none x a)
 among-byte (y ∷ ys) b x a = among-cases x y ys a (λ q. rw q (b 0)) (among-byte ys (λ i. b (suc i)) x)
 
