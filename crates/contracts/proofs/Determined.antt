@@ -21,9 +21,10 @@ use Rattle.tables.proofs.names.is_bus_name.Reads as tables-names-is-bus-name
 use Rattle.tables.proofs.names.is_pci.Reads as tables-names-is-pci
 use Rattle.tables.proofs.names.quick.Reads as tables-names-quick
 use Rattle.tables.proofs.ranges.ranges.Reads as tables-ranges-ranges
-use Rattle.sets.proofs.empty.Reads as sets-empty
 use Rattle.sets.proofs.put.Reads as sets-put
 use Rattle.sets.proofs.contains.Reads as sets-contains
+use Rattle.sets.proofs.count.Reads as sets-count
+use Rattle.sets.proofs.lowest.Reads as sets-lowest
 use Rattle.roll.proofs.has.Reads as roll-has
 use Rattle.roll.proofs.put.Reads as roll-put
 use Rattle.entries.proofs.size.Reads as entries-size
@@ -162,14 +163,17 @@ tables-ranges-ranges-determined κ a x y s t p q = p ∙ sym q
 
 -- ---- sets
 
-pub sets-empty-determined : Answers sets-empty.Post
-sets-empty-determined κ a x y s t p q = p ∙ sym q
-
-pub sets-put-determined : Answers sets-put.Post
+pub sets-put-determined : Leaves sets-put.Post (λ κ s. now (s .0))
 sets-put-determined κ a x y s t p q = p ∙ sym q
 
 pub sets-contains-determined : Answers sets-contains.Post
 sets-contains-determined κ a x y s t p q = p ∙ sym q
+
+pub sets-count-determined : Answers sets-count.Post
+sets-count-determined κ a x y s t p q = p ∙ sym q
+
+pub sets-lowest-determined : Answers sets-lowest.Post
+sets-lowest-determined κ a x y s t p q = p ∙ sym q
 
 -- ---- roll
 

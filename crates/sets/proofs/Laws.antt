@@ -1,149 +1,196 @@
--- Laws of the sets of numbers. Crates above need those of `holds`, `putAll` and `twiceIn`, which say
--- nothing of how a set is stored; the laws before them lead there. Assumes nothing.
-use Prim.Native.Nat.{ℕ, zero, suc, _*_, _/_, _%_, _^_, _<_}
-use mathlib.Core.Path.{_≡_, refl, sym, _∙_}
-use mathlib.Core.Bool.{Bool, true, false, cond, _||_, or-false, or-assoc, or-comm}
-use mathlib.Core.List.{List, [], _∷_}
+-- Laws of the sets, of any number of words: what is in one after more was put in, how many that is, and the lowest that is
+-- not. Crates above need these and not how a set is stored. Assumes nothing.
+use Prim.Native.Nat.{ℕ, zero, suc, _+_, _-_, _*_, _/_, _%_, _^_, _≤_, _<_}
+use mathlib.Core.Path.{_≡_, refl, sym, ap, _∙_}
+use mathlib.Core.Bool.{Bool, true, false, not, _||_, or-false, or-assoc, or-comm}
+use mathlib.Core.List.{List, [], _∷_, _++_}
 use native.Mathlib.Omega.{arith}
 use native.Mathlib.Nat.{one-mul}
 use lib.Bits.{bitOr}
-use lib.Dec.{eqb}
-use lib.ListN.{length, getD}
+use lib.Count.{trailingZeros, ones}
+use lib.Dec.{eqb, ltb}
 use lib.Pow.{shl-exact}
-use borrow.Author.Tests.{eq-eqb, ne-eqb, eqb-true, eqb-false}
-use Rattle.mps.specs.Words.{bit, among, twice, any}
-use Rattle.laws.proofs.Tests.{eqb-comm, or-swap, or-four}
+use lib.ListN.{length, getD, set, length-set, length-append, take, replicate, length-replicate, List·getD-eq-default}
+use lib.Seq.{set-out, getD-set-same, getD-set-other}
+use borrow.Author.Tests.{eq-eqb, ne-eqb, eqb-true, eqb-false, ltb-true, ltb-false, not-true, not-false}
+use Rattle.mps.specs.Words.{bit, among, keep, head, rising, below}
+use Rattle.laws.proofs.Tests.{whether, or-swap}
 use Rattle.laws.proofs.Bits.{bit-none, bit-power, bit-or}
-use Rattle.sets.specs.declared.Numbers.{Numbers}
-use Rattle.sets.specs.Sets.{word, holds, noNumbers, alone, withNumber, putAll}
+use Rattle.laws.proofs.Lists.{zeros-at, keep-in, keep-out, keep-append, keep-nothing, keep-most}
+use Rattle.laws.proofs.Rising.{length-rising, rising-append, keep-rising}
+use Rattle.sets.specs.Sets.{holds, withNumber, putAll, bitsOf, members, lowestOut, setBits}
+use Rattle.sets.proofs.Bits.{bit-not, bits-none, bits-lowest, bits-count, bits-keep}
 
--- ---- alone
+-- ---- What is in a set
 
-pub alone-here : (x k : ℕ) → x / 64 ≡ k → 1 * 2 ^ (x % 64) % 2 ^ 64 ≡ alone x k
-unfolding alone
-alone-here x k e =
-    rw (shl-exact {a = 1} 1 (x % 64) 64 (omega arith) (omega arith), one-mul, eq-eqb (x / 64) k e)
+-- Behind its last word there is nothing, and in words that are 0 neither.
+pub holds-past : (words : List ℕ) (n : ℕ) → bitsOf words ≤ n → holds words n ≡ false
+unfolding holds
+holds-past words n h = rw (List·getD-eq-default words 0 {n = n / 64} (omega (arith, h))) (bit-none (n % 64))
 
-pub alone-else : (x k : ℕ) → (x / 64 ≡ k → ⊥) → 0 ≡ alone x k
-unfolding alone
-alone-else x k e = simp (ne-eqb _ _ e)
+pub holds-none : (size n : ℕ) → holds (replicate size 0) n ≡ false
+unfolding holds
+holds-none size n = rw (zeros-at size (n / 64)) (bit-none (n % 64))
 
-pub bit-alone : (x y : ℕ) → bit (y % 64) (alone x (y / 64)) ≡ eqb y x
-unfolding alone
-bit-alone x y = cases (eqb y x) (eqb (x / 64) (y / 64)) refl refl
+pub length-put : (words : List ℕ) (n : ℕ) → length (withNumber words n) ≡ length words
+unfolding withNumber
+length-put words n = length-set words (n / 64) (bitOr (getD words (n / 64) 0) (2 ^ (n % 64)))
+
+-- A number that is put in is in then, where there is a bit for it, and who was in before.
+pub holds-put : (words : List ℕ) (n m : ℕ) → (m ≡ n → n < bitsOf words) → holds (withNumber words n) m ≡ (eqb m n || holds words m)
+unfolding holds withNumber
+holds-put words n m h =
+    let old = getD words (n / 64) 0 in
+    let new = bitOr old (2 ^ (n % 64)) in
+    whether (ltb (n / 64) (length words))
+    (λ l. whether (eqb (m / 64) (n / 64))
+    (λ t. let k = eqb-true (m / 64) (n / 64) t in
+    rw (k, getD-set-same words (n / 64) new 0 (ltb-true (n / 64) (length words) l), bit-or (m % 64) old (2 ^ (n % 64)), bit-power (m % 64) (n % 64))
+    (or-comm (bit (m % 64) old) (eqb (m % 64) (n % 64)) ∙ ap (λ (b : Bool). b || bit (m % 64) old) (same k)))
+    (λ f. let k = eqb-false (m / 64) (n / 64) f in
+    rw (getD-set-other words (n / 64) (m / 64) new 0 k, ne-eqb m n (λ e. k (omega (arith, e))))))
+    (λ l. let past = ltb-false (n / 64) (length words) l in
+    rw (set-out words (n / 64) new past, ne-eqb m n (λ e. omega (arith, h e, past))))
   where
-    cases : (t u : Bool) → eqb y x ≡ t → eqb (x / 64) (y / 64) ≡ u → bit (y % 64) (cond u (2 ^ (x % 64)) 0) ≡ t
-    cases true true e f = bit-power _ _ ∙ eq-eqb (y % 64) (x % 64) (omega (arith, eqb-true y x e))
-    cases true false e f = absurd (eqb-false (x / 64) (y / 64) f (omega (arith, eqb-true y x e)))
-    cases false true e f =
-        bit-power _ _ ∙ ne-eqb (y % 64) (x % 64) (λ p. eqb-false y x e (omega (arith, p, eqb-true (x / 64) (y / 64) f)))
-    cases false false e f = bit-none _
+    same : m / 64 ≡ n / 64 → eqb (m % 64) (n % 64) ≡ eqb m n
+    same k =
+        whether (eqb m n)
+        (λ t. rw t (eq-eqb (m % 64) (n % 64) (omega (arith, eqb-true m n t))))
+        (λ f. rw f (ne-eqb (m % 64) (n % 64) (λ e. eqb-false m n f (omega (arith, e, k)))))
 
--- ---- word
+-- By a shift, as the code makes the bit.
+pub shift-put : (words : List ℕ) (n : ℕ) → set words (n / 64) (bitOr (getD words (n / 64) 0) (1 * 2 ^ (n % 64) % 2 ^ 64)) ≡ withNumber words n
+unfolding withNumber
+shift-put words n = rw (shl-exact {a = 1} 1 (n % 64) 64 (omega arith) (omega arith), one-mul (2 ^ (n % 64)))
 
-pub word-empty : (k : ℕ) → word noNumbers k ≡ 0
-unfolding noNumbers
-word-empty zero = refl
-word-empty (suc zero) = refl
-word-empty (suc (suc zero)) = refl
-word-empty (suc (suc (suc zero))) = refl
-word-empty (suc (suc (suc (suc k)))) = refl
+-- ---- Every number of a list
 
-module _ (s : Numbers) (x : ℕ) where
-  pub word-put : (k : ℕ) → k < 4 → word (withNumber s x) k ≡ bitOr (word s k) (alone x k)
-  unfolding withNumber
-  word-put zero h = refl
-  word-put (suc zero) h = refl
-  word-put (suc (suc zero)) h = refl
-  word-put (suc (suc (suc zero))) h = refl
-  word-put (suc (suc (suc (suc k)))) h = absurd (omega (arith, h))
+pub length-all : (words ns : List ℕ) → length (putAll words ns) ≡ length words
+unfolding putAll
+length-all words [] = refl
+length-all words (n ∷ ns) = length-all (withNumber words n) ns ∙ length-put words n
 
-  -- From the four masks.
-  pub put-is :
-      {a b c d : ℕ} → a ≡ alone x 0 → b ≡ alone x 1 → c ≡ alone x 2 → d ≡ alone x 3
-      → record { words = bitOr (word s 0) a ∷ bitOr (word s 1) b ∷ bitOr (word s 2) c ∷ bitOr (word s 3) d ∷ [] }
-      ≡ withNumber s x
-  unfolding withNumber
-  put-is e f g h = rw (e, f, g, h)
-
--- ---- holds
-
-pub holds-empty : (y : ℕ) → holds noNumbers y ≡ false
-unfolding holds
-holds-empty y = rw (word-empty (y / 64)) (bit-none (y % 64))
-
--- Only of y is it asked to be a number that a set can hold: another x is put nowhere.
-pub holds-put : (s : Numbers) (x y : ℕ) → y < 256 → holds (withNumber s x) y ≡ (eqb y x || holds s y)
-unfolding holds
-holds-put s x y h =
-    let k = y / 64 in
-    rw (word-put s x k (omega arith), bit-or (y % 64) (word s k) (alone x k), bit-alone x y)
-    (or-comm (bit (y % 64) (word s k)) (eqb y x))
-
--- ---- putAll: a set with every number of a list
-
-pub holds-all : (s : Numbers) (xs : List ℕ) (y : ℕ) → y < 256 → holds (putAll s xs) y ≡ (among y xs || holds s y)
+pub holds-all : (words ns : List ℕ) (m : ℕ) → m < bitsOf words → holds (putAll words ns) m ≡ (among m ns || holds words m)
 unfolding putAll among
-holds-all s [] y h = refl
-holds-all s (x ∷ xs) y h =
-    holds-all (withNumber s x) xs y h ∙ rw (holds-put s x y h)
-    (or-swap (among y xs) (eqb y x) (holds s y) ∙ sym (or-assoc (eqb y x) (among y xs) (holds s y)))
+holds-all words [] m h = refl
+holds-all words (n ∷ ns) m h =
+    holds-all (withNumber words n) ns m (omega (arith, h, length-put words n))
+    ∙ rw (holds-put words n m (λ e. omega (arith, e, h)))
+    (or-swap (among m ns) (eqb m n) (holds words m) ∙ sym (or-assoc (eqb m n) (among m ns) (holds words m)))
 
--- The set of a list's numbers holds what is among them.
-pub holds-list : (xs : List ℕ) (y : ℕ) → y < 256 → holds (putAll noNumbers xs) y ≡ among y xs
-holds-list xs y h = holds-all noNumbers xs y h ∙ rw (holds-empty y) (or-false (among y xs))
+-- ---- By a test: words that hold exactly the numbers that pass one
 
--- ---- twiceIn: whether a number of a list is in a set or was met before, in one pass
+module _ (p : ℕ → Bool) (words : List ℕ) (is : (n : ℕ) → n < bitsOf words → holds words n ≡ p n) where
+  pub members-by : members words ≡ keep p (below (bitsOf words))
+  unfolding members
+  members-by = keep-rising _ _ (bitsOf words) 0 (λ n a h. is n (omega (arith, h)))
 
-unfoldable pub twiceIn : Numbers → List ℕ → Bool
-twiceIn s [] = false
-twiceIn s (x ∷ xs) = elim (holds s x) [ true ↦ true | false ↦ twiceIn (withNumber s x) xs ]
+  pub lowest-by : lowestOut words ≡ head (bitsOf words) (keep (λ (n : ℕ). not (p n)) (below (bitsOf words)))
+  unfolding lowestOut
+  lowest-by = ap (head (bitsOf words)) (keep-rising _ _ (bitsOf words) 0 (λ n a h. ap not (is n (omega (arith, h)))))
 
-module _ (s : Numbers) (x : ℕ) (xs : List ℕ) where
-  pub in-stop-cons : holds s x ≡ true → twiceIn s (x ∷ xs) ≡ true
-  unfolding twiceIn
-  in-stop-cons e = rw (e, twiceIn)
+-- ---- How many there are
 
-  pub in-next-cons : holds s x ≡ false → twiceIn s (x ∷ xs) ≡ twiceIn (withNumber s x) xs
-  unfolding twiceIn
-  in-next-cons e = rw (e, twiceIn)
+-- One word after the other: what of the numbers from word k on passes a test, of which word k has the bits w.
+from-next :
+    (p : ℕ → Bool) (size k w : ℕ) → k < size → ((j : ℕ) → j < 64 → p (k * 64 + j) ≡ bit j w)
+    → keep p (rising ((size - k) * 64) (k * 64)) ≡ setBits 64 (k * 64) w ++ keep p (rising ((size - (k + 1)) * 64) ((k + 1) * 64))
+from-next p size k w h own =
+    let left : (size - k) * 64 ≡ 64 + (size - (k + 1)) * 64 = omega (arith, h) in
+    let next : (k + 1) * 64 ≡ 64 + k * 64 = omega arith in
+    rw (left, next, rising-append 64 ((size - (k + 1)) * 64) (k * 64), ← bits-keep p 64 (k * 64) w own)
+    (keep-append p (rising 64 (k * 64)) (rising ((size - (k + 1)) * 64) (64 + k * 64)))
 
--- Every number of a list is one that a set can hold.
-abbrev pub Below256 : List ℕ → Type 0
-Below256 xs = (i : ℕ) → i < length xs → getD xs i 0 < 256
+from-done : (p : ℕ → Bool) (size k : ℕ) → size ≤ k → keep p (rising ((size - k) * 64) (k * 64)) ≡ []
+unfolding rising keep
+from-done p size k h = let none : (size - k) * 64 ≡ 0 = omega (arith, h) in rw none
 
-pub below-head : (x : ℕ) (xs : List ℕ) → Below256 (x ∷ xs) → x < 256
-below-head x xs h = h 0 (omega arith)
+-- Those from word k on.
+unfoldable pub membersFrom : List ℕ → ℕ → List ℕ
+membersFrom words k = keep (holds words) (rising ((length words - k) * 64) (k * 64))
 
-pub below-tail : (x : ℕ) (xs : List ℕ) → Below256 (x ∷ xs) → Below256 xs
-below-tail x xs h i l = h (suc i) (omega arith)
+module _ (words : List ℕ) (k : ℕ) where
+  own : (j : ℕ) → j < 64 → holds words (k * 64 + j) ≡ bit j (getD words k 0)
+  unfolding holds
+  own j h =
+      let at : (k * 64 + j) / 64 ≡ k = omega (arith, h) in
+      let by : (k * 64 + j) % 64 ≡ j = omega (arith, h) in
+      rw (at, by)
 
-pub any-empty : (xs : List ℕ) → any (holds noNumbers) xs ≡ false
-unfolding any
-any-empty [] = refl
-any-empty (x ∷ xs) = rw (holds-empty x) (any-empty xs)
+  pub members-next : k < length words → membersFrom words k ≡ setBits 64 (k * 64) (getD words k 0) ++ membersFrom words (k + 1)
+  unfolding membersFrom
+  members-next h = from-next (holds words) (length words) k (getD words k 0) h own
 
-pub any-put :
-    (s : Numbers) (x : ℕ) (ys : List ℕ) → Below256 ys
-    → any (holds (withNumber s x)) ys ≡ (among x ys || any (holds s) ys)
-unfolding any among
-any-put s x [] h = refl
-any-put s x (y ∷ ys) h =
-    rw (holds-put s x y (below-head y ys h), eqb-comm y x, any-put s x ys (below-tail y ys h))
-    (or-four (eqb x y) (holds s y) (among x ys) (any (holds s) ys))
+  pub members-done : length words ≤ k → membersFrom words k ≡ []
+  unfolding membersFrom
+  members-done h = from-done (holds words) (length words) k h
 
-pub twice-in : (s : Numbers) (xs : List ℕ) → Below256 xs → twiceIn s xs ≡ (any (holds s) xs || twice xs)
-unfolding twiceIn any twice
-twice-in s [] h = refl
-twice-in s (x ∷ xs) h = cases (holds s x) refl (twice-in (withNumber s x) xs (below-tail x xs h))
-  where
-    cases :
-        (t : Bool) → holds s x ≡ t → twiceIn (withNumber s x) xs ≡ (any (holds (withNumber s x)) xs || twice xs)
-        → twiceIn s (x ∷ xs) ≡ ((t || any (holds s) xs) || (among x xs || twice xs))
-    cases true e ih = in-stop-cons s x xs e
-    cases false e ih =
-        in-next-cons s x xs e ∙ ih ∙ rw (any-put s x xs (below-tail x xs h))
-        (or-assoc (among x xs) (any (holds s) xs) (twice xs) ∙ or-swap (among x xs) (any (holds s) xs) (twice xs))
+pub members-first : (words : List ℕ) → membersFrom words 0 ≡ members words
+unfolding membersFrom members
+members-first words =
+    let all : (length words - 0) * 64 ≡ 64 * length words = omega arith in
+    rw all
 
-pub twice-is : (xs : List ℕ) → Below256 xs → twiceIn noNumbers xs ≡ twice xs
-twice-is xs h = twice-in noNumbers xs h ∙ rw (any-empty xs)
+pub members-few : (words : List ℕ) → length (members words) ≤ bitsOf words
+unfolding members
+members-few words = omega (arith, keep-most (holds words) (below (bitsOf words)), length-rising (bitsOf words) 0)
+
+-- What a loop keeps that counts them: with those left they are all.
+abbrev pub Counts : List ℕ → ℕ → ℕ → Type 0
+Counts words n k = n + length (membersFrom words k) ≡ length (members words)
+
+pub counts-first : (words : List ℕ) → Counts words 0 0
+counts-first words = omega (arith, ap length (members-first words))
+
+module _ (words : List ℕ) (n k : ℕ) (inv : Counts words n k) where
+  pub counts-done : length words ≤ k → n ≡ length (members words)
+  counts-done h = omega (arith, inv, ap length (members-done words k h))
+
+  pub counts-next : k < length words → getD words k 0 < 2 ^ 64 → Counts words (n + ones (getD words k 0)) (k + 1)
+  counts-next h b =
+      omega (
+        arith,
+        inv,
+        ap length (members-next words k h),
+        length-append (setBits 64 (k * 64) (getD words k 0)) (membersFrom words (k + 1)),
+        bits-count 64 (k * 64) (getD words k 0) b,
+      )
+
+-- ---- The lowest that is not in a set
+
+-- That from word k on.
+unfoldable pub lowestFrom : List ℕ → ℕ → ℕ
+lowestFrom words k = head (bitsOf words) (keep (λ (n : ℕ). not (holds words n)) (rising ((length words - k) * 64) (k * 64)))
+
+pub lowest-first : (words : List ℕ) → lowestFrom words 0 ≡ lowestOut words
+unfolding lowestFrom lowestOut
+lowest-first words =
+    let all : (length words - 0) * 64 ≡ 64 * length words = omega arith in
+    rw all
+
+module _ (words : List ℕ) (k : ℕ) where
+  pub lowest-done : length words ≤ k → lowestFrom words k ≡ bitsOf words
+  unfolding lowestFrom
+  lowest-done h = rw (from-done (λ (n : ℕ). not (holds words n)) (length words) k h)
+
+  -- By the complement of word k.
+  module _ (h : k < length words) (b : getD words k 0 < 2 ^ 64) where
+    abbrev free : ℕ
+    free = 2 ^ 64 - 1 - getD words k 0
+
+    out-next :
+        keep (λ (n : ℕ). not (holds words n)) (rising ((length words - k) * 64) (k * 64))
+        ≡ setBits 64 (k * 64) free ++ keep (λ (n : ℕ). not (holds words n)) (rising ((length words - (k + 1)) * 64) ((k + 1) * 64))
+    out-next =
+        from-next (λ (n : ℕ). not (holds words n)) (length words) k free h
+        (λ j l. ap not (own words k j l) ∙ sym (bit-not 64 j (getD words k 0) b l))
+
+    pub lowest-next : free ≡ 0 → lowestFrom words k ≡ lowestFrom words (k + 1)
+    unfolding lowestFrom
+    lowest-next e = rw (out-next, bits-none 64 (k * 64) free e)
+
+    pub lowest-here : (free ≡ 0 → ⊥) → (trailingZeros 64 free < 64) × (lowestFrom words k ≡ k * 64 + trailingZeros 64 free)
+    unfolding lowestFrom
+    lowest-here some =
+        let low = bits-lowest 64 (k * 64) free some (omega arith) in
+        (low .0, rw (out-next, low .1))

@@ -1,11 +1,12 @@
 -- Sets of numbers in words of 64 bits: number n is bit n % 64 of word n / 64. Four words have bits for 0 to 255; a number past
 -- the last word is in no set.
-use Prim.Native.Nat.{ℕ, _*_, _/_, _%_, _^_}
+use Prim.Native.Nat.{ℕ, zero, suc, _*_, _/_, _%_, _^_}
 use mathlib.Core.Bool.{Bool, not}
-use mathlib.Core.List.{List, [], _∷_}
+use mathlib.Core.List.{List, [], _∷_, _++_}
 use lib.Bits.{bitOr}
+use lib.Dec.{eqb}
 use lib.ListN.{length, getD, set}
-use Rattle.mps.specs.Words.{bit, keep, head, below}
+use Rattle.mps.specs.Words.{bit, only, keep, head, below}
 
 -- Whether a number is in a set.
 unfoldable pub holds : List ℕ → ℕ → Bool
@@ -31,3 +32,8 @@ members words = keep (holds words) (below (bitsOf words))
 -- The lowest number that is not in a set: where all are in that it has bits for, the first behind them.
 unfoldable pub lowestOut : List ℕ → ℕ
 lowestOut words = head (bitsOf words) (keep (λ (n : ℕ). not (holds words n)) (below (bitsOf words)))
+
+-- The numbers of a word's bits that are set, its first d bits being numbered from n on.
+unfoldable pub setBits : ℕ → ℕ → ℕ → List ℕ
+setBits zero n word = []
+setBits (suc d) n word = only (eqb (word % 2) 1) (n ∷ []) ++ setBits d (suc n) (word / 2)

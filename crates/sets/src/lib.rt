@@ -1,51 +1,54 @@
-// Sets of the numbers 0 to 255, for the used numbers of request 2. Nothing above uses them yet.
+// Sets of the numbers 0 to 255: "Four u64 words; trailing zeros of the complement find the lowest free ID, ones count the used."
 //
-// Promised: `empty` is the set `noNumbers`, `put` makes `withNumber`, `contains` answers `holds`, each
-// of any set and any number, in a fixed number of steps. The definitions stand in specs/Sets.antt;
-// what follows from them, without a word on how a set is stored, in proofs/Laws.antt.
+// Promised of any four words and any number: `put` leaves `withNumber`, `contains` answers `holds`, `count` how many `members`
+// there are, and `lowest` `lowestOut`, of specs/Sets.antt. What follows from these definitions, of any number of words and
+// without a word on how a set is stored, stands in proofs/Laws.antt.
+//
+// Lent, since four words by value are copied at each call. A loop goes over them as a slice: of an array that is lent the
+// toolchain knows neither how many there are nor that each is a word.
 ghost use mathlib.Core.Path.{_≡_};
-ghost use Rattle.sets.specs.Sets.{noNumbers, holds, alone, withNumber};
+ghost use lib.ListN.{length};
+ghost use Rattle.sets.specs.Sets.{holds, withNumber, members, lowestOut};
 
-// Number x is bit x % 64 of word x / 64. An array and not four fields, so that the word of a number
-// is found by an index and not by tests. A copy is 32 bytes.
-pub struct Numbers {
-    words: [u64; 4],
+pub fn put(set: &mut [u64; 4], n: u8)
+    ensures { λ _. ⌜ now (set .exit) ≡ withNumber (now (set .entry)) n ⌝ }
+{
+    let k = (n / 64) as usize;
+    set[k] = set[k] | (1 << (n % 64));
 }
 
-pub fn empty() -> Numbers
-    ensures { λ r. ⌜ r ≡ noNumbers ⌝ }
+pub fn contains(set: &[u64; 4], n: u8) -> bool
+    ensures { λ r. ⌜ r ≡ holds (now (set .entry)) n ⌝ }
 {
-    Numbers {
-        words: [0, 0, 0, 0],
+    (set[(n / 64) as usize] >> (n % 64)) % 2 == 1
+}
+
+// How many numbers are in a set.
+pub fn count(set: &[u64; 4]) -> usize
+    ensures { λ r. ⌜ r ≡ length (members (now (set .entry))) ⌝ }
+{
+    let words: &[u64] = set;
+    let mut n = 0;
+    let mut k = 0;
+    while k < words.len() {
+        n += u64::count_ones(words[k]) as usize;
+        k += 1;
     }
+    n
 }
 
-// Word k of the set that only x is in.
-fn mask(x: u8, k: u8) -> u64
-    ensures { λ r. ⌜ r ≡ alone x k ⌝ }
+// The lowest number that is not in a set, 256 where all are in.
+pub fn lowest(set: &[u64; 4]) -> usize
+    ensures { λ r. ⌜ r ≡ lowestOut (now (set .entry)) ⌝ }
 {
-    if x / 64 == k { 1 << (x % 64) } else { 0 }
-}
-
-// All four words are made anew. To store one of them would need no mask, but a contract knows an
-// array as a list of any length, and every law would have to ask that the set has four words.
-pub fn put(s: Numbers, x: u8) -> Numbers
-    ensures { λ r. ⌜ r ≡ withNumber s x ⌝ }
-{
-    let w = s.words;
-    Numbers {
-        words: [
-            w[0] | mask(x, 0),
-            w[1] | mask(x, 1),
-            w[2] | mask(x, 2),
-            w[3] | mask(x, 3),
-        ],
+    let words: &[u64] = set;
+    let mut at = 0;
+    while at < words.len() {
+        let free = !words[at];
+        if free != 0 {
+            return at * 64 + u64::trailing_zeros(free) as usize;
+        }
+        at += 1;
     }
-}
-
-pub fn contains(s: Numbers, x: u8) -> bool
-    ensures { λ r. ⌜ r ≡ holds s x ⌝ }
-{
-    let w = s.words;
-    (w[(x / 64) as usize] >> (x % 64)) % 2 == 1
+    at * 64
 }
