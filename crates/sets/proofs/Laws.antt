@@ -5,7 +5,7 @@ use mathlib.Core.Path.{_≡_, refl, sym, ap, _∙_}
 use mathlib.Core.Bool.{Bool, true, false, not, _||_, or-false, or-assoc, or-comm}
 use mathlib.Core.List.{List, [], _∷_, _++_}
 use native.Mathlib.Omega.{arith}
-use native.Mathlib.Nat.{one-mul}
+use native.Mathlib.Nat.{zero-add, one-mul}
 use lib.Bits.{bitOr}
 use lib.Count.{trailingZeros, ones}
 use lib.Dec.{eqb, ltb}
@@ -77,17 +77,6 @@ holds-all words (n ∷ ns) m h =
     holds-all (withNumber words n) ns m (omega (arith, h, length-put words n))
     ∙ rw (holds-put words n m (λ e. omega (arith, e, h)))
     (or-swap (among m ns) (eqb m n) (holds words m) ∙ sym (or-assoc (eqb m n) (among m ns) (holds words m)))
-
--- ---- By a test: words that hold exactly the numbers that pass one
-
-module _ (p : ℕ → Bool) (words : List ℕ) (is : (n : ℕ) → n < bitsOf words → holds words n ≡ p n) where
-  pub members-by : members words ≡ keep p (below (bitsOf words))
-  unfolding members
-  members-by = keep-rising _ _ (bitsOf words) 0 (λ n a h. is n (omega (arith, h)))
-
-  pub lowest-by : lowestOut words ≡ head (bitsOf words) (keep (λ (n : ℕ). not (p n)) (below (bitsOf words)))
-  unfolding lowestOut
-  lowest-by = ap (head (bitsOf words)) (keep-rising _ _ (bitsOf words) 0 (λ n a h. ap not (is n (omega (arith, h)))))
 
 -- ---- How many there are
 
@@ -194,3 +183,74 @@ module _ (words : List ℕ) (k : ℕ) where
     lowest-here some =
         let low = bits-lowest 64 (k * 64) free some (omega arith) in
         (low .0, rw (out-next, low .1))
+
+-- The first number from k on that passes a test, k + n where none below that does: it passes, and none before it.
+first-passes :
+    (p : ℕ → Bool) (n k : ℕ) → let x = head (k + n) (keep p (rising n k)) in
+    (x ≤ k + n) × (x < k + n → p x ≡ true) × ((y : ℕ) → k ≤ y → y < x → p y ≡ false)
+unfolding keep rising
+first-passes p zero k = (omega arith, λ h. absurd (omega (arith, h)), λ y a h. absurd (omega (arith, a, h)))
+first-passes p (suc n) k =
+    whether (p k)
+    (λ t. rw (keep-in p k (rising n (suc k)) t) (omega arith, λ h. t, λ y a h. absurd (omega (arith, a, h))))
+    (λ f. let end : k + suc n ≡ suc k + n = omega arith in
+    let rest = first-passes p n (suc k) in
+    rw (keep-out p k (rising n (suc k)) f, end)
+    (rest .0, rest .1, λ y a h. whether (eqb y k) (λ e. rw (eqb-true y k e) f) (λ e. rest .2 y (omega (arith, a, eqb-false y k e)) h)))
+
+-- It is not in, and every lower one is.
+module _ (words : List ℕ) where
+  first-out : (lowestOut words ≤ bitsOf words) × (lowestOut words < bitsOf words → not (holds words (lowestOut words)) ≡ true)
+      × ((n : ℕ) → 0 ≤ n → n < lowestOut words → not (holds words n) ≡ false)
+  unfolding lowestOut
+  first-out = rw (zero-add (bitsOf words)) at (first-passes (λ (n : ℕ). not (holds words n)) (bitsOf words) 0)
+
+  pub lowest-most : lowestOut words ≤ bitsOf words
+  lowest-most = first-out .0
+
+  pub lowest-out : holds words (lowestOut words) ≡ false
+  lowest-out =
+      whether (ltb (lowestOut words) (bitsOf words))
+      (λ l. not-true (holds words (lowestOut words)) (first-out .1 (ltb-true (lowestOut words) (bitsOf words) l)))
+      (λ l. holds-past words (lowestOut words) (ltb-false (lowestOut words) (bitsOf words) l))
+
+  pub lowest-under : (n : ℕ) → n < lowestOut words → holds words n ≡ true
+  lowest-under n h = not-false (holds words n) (first-out .2 n (omega arith) h)
+
+-- ---- By a test: words that hold exactly the numbers that pass one
+
+-- The first that passes, and who else does.
+keep-first :
+    (q : ℕ → Bool) (n k x : ℕ) → k ≤ x → x < k + n → q x ≡ true → ((y : ℕ) → k ≤ y → y < x → q y ≡ false)
+    → (rest : List ℕ) × (keep q (rising n k) ≡ x ∷ rest)
+unfolding rising
+keep-first q zero k x a b here under = absurd (omega (arith, a, b))
+keep-first q (suc n) k x a b here under =
+    whether (eqb k x)
+    (λ e. let same = eqb-true k x e in
+    (keep q (rising n (suc k)), keep-in q k (rising n (suc k)) (rw same here) ∙ ap (λ (y : ℕ). y ∷ keep q (rising n (suc k))) same))
+    (λ e. let else = eqb-false k x e in
+    let more = keep-first q n (suc k) x (omega (arith, a, else)) (omega (arith, b)) here (λ y c d. under y (omega (arith, c)) d) in
+    (more .0, keep-out q k (rising n (suc k)) (under k (omega arith) (omega (arith, a, else))) ∙ more .1))
+
+module _ (p : ℕ → Bool) (words : List ℕ) (is : (n : ℕ) → n < bitsOf words → holds words n ≡ p n) where
+  pub members-by : members words ≡ keep p (below (bitsOf words))
+  unfolding members
+  members-by = keep-rising _ _ (bitsOf words) 0 (λ n a h. is n (omega (arith, h)))
+
+  pub lowest-by : lowestOut words ≡ head (bitsOf words) (keep (λ (n : ℕ). not (p n)) (below (bitsOf words)))
+  unfolding lowestOut
+  lowest-by = ap (head (bitsOf words)) (keep-rising _ _ (bitsOf words) 0 (λ n a h. ap not (is n (omega (arith, h)))))
+
+  -- Of the numbers below another the lowest is the first that does not pass; or all pass.
+  module _ (m : ℕ) (fit : m ≤ bitsOf words) where
+    pub first-free : lowestOut words < m → (rest : List ℕ) × (keep (λ (n : ℕ). not (p n)) (below m) ≡ lowestOut words ∷ rest)
+    first-free h =
+        keep-first (λ (n : ℕ). not (p n)) m 0 (lowestOut words) (omega arith) (omega (arith, h))
+        (ap not (sym (is (lowestOut words) (omega (arith, h, fit))) ∙ lowest-out words))
+        (λ n a l. ap not (sym (is n (omega (arith, l, h, fit))) ∙ lowest-under words n l))
+
+    pub none-free : m ≤ lowestOut words → keep (λ (n : ℕ). not (p n)) (below m) ≡ []
+    none-free h =
+        keep-rising _ _ m 0 (λ n a l. ap not (sym (is n (omega (arith, l, fit))) ∙ lowest-under words n (omega (arith, l, h))))
+        ∙ keep-nothing (below m)
