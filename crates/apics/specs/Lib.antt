@@ -1,1 +1,2 @@
 pub mod Apics
+pub mod Enabled

@@ -28,7 +28,8 @@ use Rattle.laws.proofs.Rows.{rows-count}
 use Rattle.laws.proofs.Lists.{keep-most}
 use Rattle.judge.specs.Placed.{Placed}
 use Rattle.accepted.proofs.Sound.{sound, entries-least}
-use Rattle.routes.specs.Pairs.{sideOf, pairsOf, enabledIn, named, pairsFor, pairsIn, countIn, told, meant}
+use Rattle.apics.specs.Enabled.{enabledIn}
+use Rattle.routes.specs.Pairs.{sideOf, pairsOf, named, pairsFor, pairsIn, countIn, told, meant}
 use Rattle.roll.specs.Roll.{takenBit, enrolled, OnRoll}
 use Rattle.roll.proofs.Laws.{enrolled-on}
 use Rattle.routes.proofs.Laws.{length-pairs, pairs-count, kept-most, io-apart, local-apart, io-pairs, local-pairs}

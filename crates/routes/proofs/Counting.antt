@@ -16,9 +16,10 @@ use Rattle.mps.specs.Sections.{rows}
 use Rattle.laws.proofs.Tests.{whether}
 use Rattle.laws.proofs.Lists.{among-at, keep-in, keep-out}
 use Rattle.laws.proofs.Rows.{rows-done, rows-next, row-byte}
-use Rattle.apics.proofs.Laws.{row-enabled}
+use Rattle.apics.specs.Enabled.{enabledIn}
+use Rattle.apics.proofs.Enabled.{enabled-done, enabled-on, enabled-off}
 use Rattle.roll.specs.Roll.{takenBit, marked, withMarks, enrolled, OnRoll}
-use Rattle.routes.specs.Pairs.{wired, enabledIn, named, countIn}
+use Rattle.routes.specs.Pairs.{wired, named, countIn}
 
 -- ---- wired
 
@@ -104,32 +105,6 @@ module _ (ids : List ℕ) (p : Entry → Bool) (s : List ℕ) (pairs at : ℕ) (
         let same : countIn ids p (rows 8 (drop at s)) ≡ countIn ids p rest =
         rw (next, keep-out p row rest (sym e ∙ t)) in
         (omega (arith, same, inv .0), omega (arith, f), omega (arith, inv .2))
-
--- ---- enabledIn
-
--- From a place on: nothing whole is left, the row there is enabled, or it is not.
-module _ (n : ℕ) (s : List ℕ) (at : ℕ) (h : at ≤ length s) where
-  pub enabled-done : length s - at < n → enabledIn n (drop at s) ≡ []
-  unfolding enabledIn keep each
-  enabled-done f = rw (rows-done n s at h f)
-
-  module _ (z : 4 ≤ n) (f : n ≤ length s - at) where
-    abbrev own : Entry
-    own = take n (drop at s)
-
-    abbrev behind : List Entry
-    behind = rows n (drop (at + n) s)
-
-    first : rows n (drop at s) ≡ own ∷ behind
-    first = rows-next n s at (omega arith) h f
-
-    pub enabled-on : getD s (at + 3) 0 % 2 ≡ 1 → enabledIn n (drop at s) ≡ getD s (at + 1) 0 ∷ enabledIn n (drop (at + n) s)
-    unfolding enabledIn each
-    enabled-on p = rw (first, keep-in enabled own behind (row-enabled n s at z ∙ eq-eqb _ _ p), row-byte n s at 1 (omega arith))
-
-    pub enabled-off : (getD s (at + 3) 0 % 2 ≡ 1 → ⊥) → enabledIn n (drop at s) ≡ enabledIn n (drop (at + n) s)
-    unfolding enabledIn
-    enabled-off p = rw (first, keep-out enabled own behind (row-enabled n s at z ∙ ne-eqb _ _ p))
 
 -- ---- gather
 

@@ -22,7 +22,8 @@ use Rattle.laws.proofs.Lists.{keep-keep, keep-most}
 use Rattle.laws.proofs.Joined.{joined-same, joined-most, joined-length}
 use Rattle.judge.specs.Placed.{Placed}
 use Rattle.accepted.proofs.Obeyed.{obeyed}
-use Rattle.routes.specs.Pairs.{wired, pairsOf, enabledIn, named, pairsFor, pairsIn, countIn}
+use Rattle.apics.specs.Enabled.{enabledIn}
+use Rattle.routes.specs.Pairs.{wired, pairsOf, named, pairsFor, pairsIn, countIn}
 
 -- ---- Names: of APICs of which no two have one ID, an entry names all, one, or none
 

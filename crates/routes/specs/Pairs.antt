@@ -8,9 +8,8 @@ use lib.Dec.{eqb}
 use Rattle.mps.specs.Words.{keep, each, joined, among, only}
 use Rattle.mps.specs.Sums.{total}
 use Rattle.mps.specs.Refusals.{roomNumber}
-use Rattle.mps.specs.Layout.{Entry, ofType, enabled, idOf, interruptType, sourceBus, sourceIrq, busSlots, destination, everyone, baseEntries}
+use Rattle.mps.specs.Layout.{Entry, ofType, interruptType, sourceBus, sourceIrq, busSlots, destination, everyone, baseEntries}
 use Rattle.mps.specs.Rules.{Side, ioSide, localSide, enabledOf}
-use Rattle.mps.specs.Sections.{rows}
 use Rattle.mps.specs.Rooms.{tooSmall}
 use Rattle.mps.specs.Routes.{pair, pairSize, pairsTo}
 use Rattle.mps.specs.declared.Lent.{Lent}
@@ -33,10 +32,6 @@ pairsOf side p t =
     (keep (λ (e : Entry). ofType (side .interrupts) e && p e) (baseEntries t))
 
 -- ---- The same as the code makes them
-
--- The IDs of the enabled entries, of entries of n bytes each, one behind the other.
-unfoldable pub enabledIn : ℕ → List ℕ → List ℕ
-enabledIn n s = each idOf (keep enabled (rows n s))
 
 -- Those of them that a destination names.
 unfoldable pub named : List ℕ → ℕ → List ℕ

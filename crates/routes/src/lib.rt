@@ -31,7 +31,8 @@ ghost use Rattle.mps.specs.Routes.{question, pair, pairSize, routed, routesLeft
 ghost use Rattle.mps.specs.Slots.{slot, slotRouted, slotRoutesLeft};
 ghost use Rattle.roll.specs.Roll.{takenBit, enrolled, OnRoll};
 ghost use Rattle.judge.specs.Placed.{Placed};
-ghost use Rattle.routes.specs.Pairs.{sideOf, wired, pairsOf, enabledIn, named, pairsFor, pairsIn, countIn, told, meant};
+ghost use Rattle.apics.specs.Enabled.{enabledIn};
+ghost use Rattle.routes.specs.Pairs.{sideOf, wired, pairsOf, named, pairsFor, pairsIn, countIn, told, meant};
 
 // Interrupt type, bus and IRQ in; the pairs stand in the room from its first byte on.
 pub fn io(t: &[u8], itype: u8, bus: u8, irq: u8, out: &mut [u8]) -> Lent

@@ -4,7 +4,8 @@ use mathlib.Core.Path.{_≡_}
 use native.Mathlib.Omega.{arith}
 use lib.ListN.{length, take, replicate}
 use borrow.Author.Needs.{needs}
-use Rattle.routes.specs.Pairs.{wired, enabledIn}
+use Rattle.apics.specs.Enabled.{enabledIn}
+use Rattle.routes.specs.Pairs.{wired}
 use Rattle.roll.specs.Roll.{takenBit, OnRoll}
 use Rattle.routes.proofs.Answering.{ids-most, ids-inside, ids-read, ids-known, answer-short, answer-room, answer-put}
 use Rattle.routes.proofs.answer.Statement.{statement}
