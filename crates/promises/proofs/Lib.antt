@@ -1,6 +1,7 @@
 pub mod Answered
 pub mod Given
 pub mod Judge
+pub mod IoApics
 pub mod Climb
 pub mod Pairs
 pub mod Routes

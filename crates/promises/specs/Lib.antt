@@ -1,5 +1,6 @@
 pub mod Climbed
 pub mod Declared
+pub mod IoApics
 pub mod Numbered
 pub mod Runs
 pub mod Shown
