@@ -1,16 +1,14 @@
 -- Laws of the sets, of any number of words: what is in one after more was put in, how many that is, and the lowest that is
 -- not. Crates above need these and not how a set is stored. Assumes nothing.
-use Prim.Native.Nat.{ℕ, zero, suc, _+_, _-_, _*_, _/_, _%_, _^_, _≤_, _<_}
+use Prim.Native.Nat.{ℕ, zero, suc, _+_, _-_, _/_, _%_, _^_, _≤_, _<_}
 use mathlib.Core.Path.{_≡_, refl, sym, ap, _∙_}
-use mathlib.Core.Bool.{Bool, true, false, not, _||_, or-false, or-assoc, or-comm}
-use mathlib.Core.List.{List, [], _∷_, _++_}
+use mathlib.Core.Bool.{Bool, true, false, not, _||_, or-assoc, or-comm}
+use mathlib.Core.List.{List, [], _∷_, _++_, append-nil}
 use native.Mathlib.Omega.{arith}
-use native.Mathlib.Nat.{zero-add, one-mul}
+use native.Mathlib.Nat.{zero-add, sub-zero}
 use lib.Bits.{bitOr}
-use lib.Count.{trailingZeros, ones}
 use lib.Dec.{eqb, ltb}
-use lib.Pow.{shl-exact}
-use lib.ListN.{length, getD, set, length-set, length-append, take, replicate, length-replicate, List·getD-eq-default}
+use lib.ListN.{length, getD, length-set, take, replicate, length-replicate, List·getD-eq-default}
 use lib.Seq.{set-out, getD-set-same, getD-set-other}
 use borrow.Author.Tests.{eq-eqb, ne-eqb, eqb-true, eqb-false, ltb-true, ltb-false, not-true, not-false}
 use Rattle.mps.specs.Words.{bit, among, keep, head, rising, below}
@@ -18,8 +16,7 @@ use Rattle.laws.proofs.Tests.{whether, or-swap}
 use Rattle.laws.proofs.Bits.{bit-none, bit-power, bit-or}
 use Rattle.laws.proofs.Lists.{zeros-at, keep-in, keep-out, keep-append, keep-nothing, keep-most}
 use Rattle.laws.proofs.Rising.{length-rising, rising-append, keep-rising}
-use Rattle.sets.specs.Sets.{holds, withNumber, putAll, bitsOf, members, lowestOut, setBits}
-use Rattle.sets.proofs.Bits.{bit-not, bits-none, bits-lowest, bits-count, bits-keep}
+use Rattle.sets.specs.Sets.{holds, withNumber, putAll, bitsOf, members, lowestOut}
 
 -- ---- What is in a set
 
@@ -31,6 +28,17 @@ holds-past words n h = rw (List·getD-eq-default words 0 {n = n / 64} (omega (ar
 pub holds-none : (size n : ℕ) → holds (replicate size 0) n ≡ false
 unfolding holds
 holds-none size n = rw (zeros-at size (n / 64)) (bit-none (n % 64))
+
+-- So the first words of a new array are an empty set.
+pub cut-none :
+    (size n : ℕ) → n ≤ size
+    → let words : List ℕ = take {A = ℕ} (n - 0) (replicate {A = ℕ} size 0) in (length words ≡ n) × ((m : ℕ) → holds words m ≡ false)
+cut-none size n h = rw (sub-zero n, cut n size h) (length-replicate {A = ℕ} n 0, holds-none n)
+  where
+    cut : (a b : ℕ) → a ≤ b → take {A = ℕ} a (replicate {A = ℕ} b 0) ≡ replicate {A = ℕ} a 0
+    cut zero b l = refl
+    cut (suc a) zero l = absurd (omega (arith, l))
+    cut (suc a) (suc b) l = ap (λ (s : List ℕ). 0 ∷ s) (cut a b (omega (arith, l)))
 
 pub length-put : (words : List ℕ) (n : ℕ) → length (withNumber words n) ≡ length words
 unfolding withNumber
@@ -58,11 +66,6 @@ holds-put words n m h =
         (λ t. rw t (eq-eqb (m % 64) (n % 64) (omega (arith, eqb-true m n t))))
         (λ f. rw f (ne-eqb (m % 64) (n % 64) (λ e. eqb-false m n f (omega (arith, e, k)))))
 
--- By a shift, as the code makes the bit.
-pub shift-put : (words : List ℕ) (n : ℕ) → set words (n / 64) (bitOr (getD words (n / 64) 0) (1 * 2 ^ (n % 64) % 2 ^ 64)) ≡ withNumber words n
-unfolding withNumber
-shift-put words n = rw (shl-exact {a = 1} 1 (n % 64) 64 (omega arith) (omega arith), one-mul (2 ^ (n % 64)))
-
 -- ---- Every number of a list
 
 pub length-all : (words ns : List ℕ) → length (putAll words ns) ≡ length words
@@ -80,109 +83,25 @@ holds-all words (n ∷ ns) m h =
 
 -- ---- How many there are
 
--- One word after the other: what of the numbers from word k on passes a test, of which word k has the bits w.
-from-next :
-    (p : ℕ → Bool) (size k w : ℕ) → k < size → ((j : ℕ) → j < 64 → p (k * 64 + j) ≡ bit j w)
-    → keep p (rising ((size - k) * 64) (k * 64)) ≡ setBits 64 (k * 64) w ++ keep p (rising ((size - (k + 1)) * 64) ((k + 1) * 64))
-from-next p size k w h own =
-    let left : (size - k) * 64 ≡ 64 + (size - (k + 1)) * 64 = omega (arith, h) in
-    let next : (k + 1) * 64 ≡ 64 + k * 64 = omega arith in
-    rw (left, next, rising-append 64 ((size - (k + 1)) * 64) (k * 64), ← bits-keep p 64 (k * 64) w own)
-    (keep-append p (rising 64 (k * 64)) (rising ((size - (k + 1)) * 64) (64 + k * 64)))
-
-from-done : (p : ℕ → Bool) (size k : ℕ) → size ≤ k → keep p (rising ((size - k) * 64) (k * 64)) ≡ []
-unfolding rising keep
-from-done p size k h = let none : (size - k) * 64 ≡ 0 = omega (arith, h) in rw none
-
--- Those from word k on.
-unfoldable pub membersFrom : List ℕ → ℕ → List ℕ
-membersFrom words k = keep (holds words) (rising ((length words - k) * 64) (k * 64))
-
-module _ (words : List ℕ) (k : ℕ) where
-  own : (j : ℕ) → j < 64 → holds words (k * 64 + j) ≡ bit j (getD words k 0)
-  unfolding holds
-  own j h =
-      let at : (k * 64 + j) / 64 ≡ k = omega (arith, h) in
-      let by : (k * 64 + j) % 64 ≡ j = omega (arith, h) in
-      rw (at, by)
-
-  pub members-next : k < length words → membersFrom words k ≡ setBits 64 (k * 64) (getD words k 0) ++ membersFrom words (k + 1)
-  unfolding membersFrom
-  members-next h = from-next (holds words) (length words) k (getD words k 0) h own
-
-  pub members-done : length words ≤ k → membersFrom words k ≡ []
-  unfolding membersFrom
-  members-done h = from-done (holds words) (length words) k h
-
-pub members-first : (words : List ℕ) → membersFrom words 0 ≡ members words
-unfolding membersFrom members
-members-first words =
-    let all : (length words - 0) * 64 ≡ 64 * length words = omega arith in
-    rw all
-
 pub members-few : (words : List ℕ) → length (members words) ≤ bitsOf words
 unfolding members
 members-few words = omega (arith, keep-most (holds words) (below (bitsOf words)), length-rising (bitsOf words) 0)
 
--- What a loop keeps that counts them: with those left they are all.
-abbrev pub Counts : List ℕ → ℕ → ℕ → Type 0
-Counts words n k = n + length (membersFrom words k) ≡ length (members words)
-
-pub counts-first : (words : List ℕ) → Counts words 0 0
-counts-first words = omega (arith, ap length (members-first words))
-
-module _ (words : List ℕ) (n k : ℕ) (inv : Counts words n k) where
-  pub counts-done : length words ≤ k → n ≡ length (members words)
-  counts-done h = omega (arith, inv, ap length (members-done words k h))
-
-  pub counts-next : k < length words → getD words k 0 < 2 ^ 64 → Counts words (n + ones (getD words k 0)) (k + 1)
-  counts-next h b =
-      omega (
-        arith,
-        inv,
-        ap length (members-next words k h),
-        length-append (setBits 64 (k * 64) (getD words k 0)) (membersFrom words (k + 1)),
-        bits-count 64 (k * 64) (getD words k 0) b,
-      )
+-- To look for more than it has bits for finds no others.
+pub members-all : (words : List ℕ) (m : ℕ) → bitsOf words ≤ m → keep (holds words) (below m) ≡ members words
+unfolding members
+members-all words m h =
+    let b = bitsOf words in
+    let left = rising (m - b) (b + 0) in
+    let all : m ≡ b + (m - b) = omega (arith, h) in
+    ap (λ (n : ℕ). keep (holds words) (below n)) all
+    ∙ ap (keep (holds words)) (rising-append b (m - b) 0)
+    ∙ keep-append (holds words) (below b) left
+    ∙ ap (λ (l : List ℕ). keep (holds words) (below b) ++ l)
+    (keep-rising _ _ (m - b) (b + 0) (λ n a k. holds-past words n (omega (arith, a))) ∙ keep-nothing left)
+    ∙ append-nil (keep (holds words) (below b))
 
 -- ---- The lowest that is not in a set
-
--- That from word k on.
-unfoldable pub lowestFrom : List ℕ → ℕ → ℕ
-lowestFrom words k = head (bitsOf words) (keep (λ (n : ℕ). not (holds words n)) (rising ((length words - k) * 64) (k * 64)))
-
-pub lowest-first : (words : List ℕ) → lowestFrom words 0 ≡ lowestOut words
-unfolding lowestFrom lowestOut
-lowest-first words =
-    let all : (length words - 0) * 64 ≡ 64 * length words = omega arith in
-    rw all
-
-module _ (words : List ℕ) (k : ℕ) where
-  pub lowest-done : length words ≤ k → lowestFrom words k ≡ bitsOf words
-  unfolding lowestFrom
-  lowest-done h = rw (from-done (λ (n : ℕ). not (holds words n)) (length words) k h)
-
-  -- By the complement of word k.
-  module _ (h : k < length words) (b : getD words k 0 < 2 ^ 64) where
-    abbrev free : ℕ
-    free = 2 ^ 64 - 1 - getD words k 0
-
-    out-next :
-        keep (λ (n : ℕ). not (holds words n)) (rising ((length words - k) * 64) (k * 64))
-        ≡ setBits 64 (k * 64) free ++ keep (λ (n : ℕ). not (holds words n)) (rising ((length words - (k + 1)) * 64) ((k + 1) * 64))
-    out-next =
-        from-next (λ (n : ℕ). not (holds words n)) (length words) k free h
-        (λ j l. ap not (own words k j l) ∙ sym (bit-not 64 j (getD words k 0) b l))
-
-    pub lowest-next : free ≡ 0 → lowestFrom words k ≡ lowestFrom words (k + 1)
-    unfolding lowestFrom
-    lowest-next e = rw (out-next, bits-none 64 (k * 64) free e)
-
-    pub lowest-here : (free ≡ 0 → ⊥) → (trailingZeros 64 free < 64) × (lowestFrom words k ≡ k * 64 + trailingZeros 64 free)
-    unfolding lowestFrom
-    lowest-here some =
-        let low = bits-lowest 64 (k * 64) free some (omega arith) in
-        (low .0, rw (out-next, low .1))
 
 -- The first number from k on that passes a test, k + n where none below that does: it passes, and none before it.
 first-passes :
@@ -219,20 +138,6 @@ module _ (words : List ℕ) where
 
 -- ---- By a test: words that hold exactly the numbers that pass one
 
--- The first that passes, and who else does.
-keep-first :
-    (q : ℕ → Bool) (n k x : ℕ) → k ≤ x → x < k + n → q x ≡ true → ((y : ℕ) → k ≤ y → y < x → q y ≡ false)
-    → (rest : List ℕ) × (keep q (rising n k) ≡ x ∷ rest)
-unfolding rising
-keep-first q zero k x a b here under = absurd (omega (arith, a, b))
-keep-first q (suc n) k x a b here under =
-    whether (eqb k x)
-    (λ e. let same = eqb-true k x e in
-    (keep q (rising n (suc k)), keep-in q k (rising n (suc k)) (rw same here) ∙ ap (λ (y : ℕ). y ∷ keep q (rising n (suc k))) same))
-    (λ e. let else = eqb-false k x e in
-    let more = keep-first q n (suc k) x (omega (arith, a, else)) (omega (arith, b)) here (λ y c d. under y (omega (arith, c)) d) in
-    (more .0, keep-out q k (rising n (suc k)) (under k (omega arith) (omega (arith, a, else))) ∙ more .1))
-
 module _ (p : ℕ → Bool) (words : List ℕ) (is : (n : ℕ) → n < bitsOf words → holds words n ≡ p n) where
   pub members-by : members words ≡ keep p (below (bitsOf words))
   unfolding members
@@ -241,16 +146,3 @@ module _ (p : ℕ → Bool) (words : List ℕ) (is : (n : ℕ) → n < bitsOf wo
   pub lowest-by : lowestOut words ≡ head (bitsOf words) (keep (λ (n : ℕ). not (p n)) (below (bitsOf words)))
   unfolding lowestOut
   lowest-by = ap (head (bitsOf words)) (keep-rising _ _ (bitsOf words) 0 (λ n a h. ap not (is n (omega (arith, h)))))
-
-  -- Of the numbers below another the lowest is the first that does not pass; or all pass.
-  module _ (m : ℕ) (fit : m ≤ bitsOf words) where
-    pub first-free : lowestOut words < m → (rest : List ℕ) × (keep (λ (n : ℕ). not (p n)) (below m) ≡ lowestOut words ∷ rest)
-    first-free h =
-        keep-first (λ (n : ℕ). not (p n)) m 0 (lowestOut words) (omega arith) (omega (arith, h))
-        (ap not (sym (is (lowestOut words) (omega (arith, h, fit))) ∙ lowest-out words))
-        (λ n a l. ap not (sym (is n (omega (arith, l, h, fit))) ∙ lowest-under words n l))
-
-    pub none-free : m ≤ lowestOut words → keep (λ (n : ℕ). not (p n)) (below m) ≡ []
-    none-free h =
-        keep-rising _ _ m 0 (λ n a l. ap not (sym (is n (omega (arith, l, fit))) ∙ lowest-under words n (omega (arith, l, h))))
-        ∙ keep-nothing (below m)

@@ -24,7 +24,9 @@ use Rattle.laws.proofs.Refusals.{number}
 use Rattle.laws.proofs.Lent.{lent-early, left-kept, lent-refused, fit-put, fit-short, fit-late}
 use Rattle.judge.proofs.Laws.{refused-number, refused-some}
 use Rattle.roll.specs.Roll.{busBit, marked}
-use Rattle.slots.specs.Sets.{slotsMost, slotNumber, namedOn, listedOn, slotBytes, hasSlot, slotsIn}
+use Rattle.sets.specs.Sets.{holds, members}
+use Rattle.sets.proofs.Laws.{members-all}
+use Rattle.slots.specs.Sets.{slotsMost, setWords, slotNumber, namedOn, listedOn, slotBytes}
 use Rattle.slots.proofs.Sets.{among-few}
 use Rattle.slots.proofs.Writing.{length-slots}
 
@@ -55,14 +57,15 @@ listed-late t room a is e =
 
 -- ---- The slots of a set
 
-module _ (roll : List ℕ) (es : List Entry) (empty words : List ℕ) (none : (n : ℕ) → hasSlot empty n ≡ false)
-    (noted : (n : ℕ) → hasSlot words n ≡ (among n (namedOn roll es) || hasSlot empty n)) where
-  in-set : keep (λ (n : ℕ). among n (namedOn roll es)) (below slotsMost) ≡ slotsIn words
-  unfolding slotsIn
-  in-set = keep-rising _ _ slotsMost 0 (λ n a h. sym (noted n ∙ rw (none n) (or-false (among n (namedOn roll es)))))
+module _ (roll : List ℕ) (es : List Entry) (empty words : List ℕ) (size : length words ≤ setWords) (none : (n : ℕ) → holds empty n ≡ false)
+    (noted : (n : ℕ) → holds words n ≡ (among n (namedOn roll es) || holds empty n)) where
+  in-set : keep (λ (n : ℕ). among n (namedOn roll es)) (below slotsMost) ≡ members words
+  in-set =
+      keep-rising _ _ slotsMost 0 (λ n a h. sym (noted n ∙ rw (none n) (or-false (among n (namedOn roll es)))))
+      ∙ members-all words slotsMost (omega (arith, size))
 
   -- No more than entries.
-  pub set-few : length (slotsIn words) ≤ length es
+  pub set-few : length (members words) ≤ length es
   unfolding namedOn
   set-few =
       omega (
@@ -76,21 +79,21 @@ module _ (roll : List ℕ) (es : List Entry) (empty words : List ℕ) (none : (n
   abbrev answer : List ℕ
   answer = listedOn roll es
 
-  is : answer ≡ joined slotBytes (slotsIn words)
+  is : answer ≡ joined slotBytes (members words)
   unfolding listedOn
   is = ap (joined slotBytes) in-set
 
-  total : length answer ≡ length (slotsIn words) * 3
-  total = ap length is ∙ length-slots (slotsIn words)
+  total : length answer ≡ length (members words) * 3
+  total = ap length is ∙ length-slots (members words)
 
-  module _ (room : List ℕ) {r : Bool} (told : r ≡ leb (length (slotsIn words)) (length room / 3)) where
+  module _ (room : List ℕ) {r : Bool} (told : r ≡ leb (length (members words)) (length room / 3)) where
     pub set-short : not r ≡ true → (Refused roomNumber ≡ fitted answer (length answer / slotSize) room) × (room ≡ fitLeft answer room)
-    set-short f = fit-short answer (length answer / slotSize) room (omega (arith, total, leb-false (length (slotsIn words)) (length room / 3) (sym told ∙ not-true r f)))
+    set-short f = fit-short answer (length answer / slotSize) room (omega (arith, total, leb-false (length (members words)) (length room / 3) (sym told ∙ not-true r f)))
 
-    pub set-fits : not r ≡ false → length (slotsIn words) * 3 ≤ length room
-    set-fits t = omega (arith, leb-true (length (slotsIn words)) (length room / 3) (sym told ∙ not-false r t))
+    pub set-fits : not r ≡ false → length (members words) * 3 ≤ length room
+    set-fits t = omega (arith, leb-true (length (members words)) (length room / 3) (sym told ∙ not-false r t))
 
     pub set-put :
-        not r ≡ false → {q : ℕ} {u : List ℕ} → q ≡ length (joined slotBytes (slotsIn words)) → u ≡ sets room 0 (joined slotBytes (slotsIn words))
+        not r ≡ false → {q : ℕ} {u : List ℕ} → q ≡ length (joined slotBytes (members words)) → u ≡ sets room 0 (joined slotBytes (members words))
         → (Count (q / slotSize) ≡ fitted answer (length answer / slotSize) room) × (u ≡ fitLeft answer room)
     set-put t e g = fit-put answer (length answer / slotSize) room (omega (arith, e, ap length is)) (omega (arith, total, set-fits t)) (rw is g)

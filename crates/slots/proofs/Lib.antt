@@ -1,4 +1,3 @@
-pub mod Bits
 pub mod Sets
 pub mod Writing
 pub mod Laws

@@ -1,92 +1,38 @@
--- Laws of the sets of slots: what is in one after more was put in, how many that is, and what the passes over the entries
--- keep. Assumes nothing.
-use Prim.Native.Nat.{ℕ, zero, suc, _+_, _-_, _*_, _/_, _%_, _^_, _≤_, _<_}
+-- Laws of the sets of slots: how one is put in, how many there are, and what the passes over the entries keep. Assumes nothing.
+use Prim.Native.Nat.{ℕ, _+_, _-_, _*_, _/_, _%_, _^_, _≤_, _<_}
 use mathlib.Core.Path.{_≡_, refl, sym, ap, _∙_}
-use mathlib.Core.Bool.{Bool, true, false, _||_, or-assoc, or-comm}
+use mathlib.Core.Bool.{Bool, true, false, _||_, or-assoc}
 use mathlib.Core.List.{List, [], _∷_}
 use native.Mathlib.Omega.{arith}
-use native.Mathlib.Nat.{one-mul}
 use lib.Bits.{bitOr}
 use lib.Dec.{eqb, ltb}
-use lib.Pow.{shl-exact}
-use lib.ListN.{length, getD, set, length-set, take, drop, replicate, length-replicate, List·getD-eq-default}
-use lib.Seq.{length-take-le, getD-set-same, getD-set-other, set-getD, set-set}
-use borrow.Author.Tests.{eq-eqb, ne-eqb, eqb-true, eqb-false, ltb-true, ltb-false}
-use Rattle.mps.specs.Words.{bit, among, keep, each, below}
+use lib.ListN.{length, getD, set, take, drop}
+use lib.Seq.{getD-set-same, set-set}
+use borrow.Author.Tests.{ne-eqb, ltb-true, ltb-false}
+use Rattle.mps.specs.Words.{among, keep, each, below}
 use Rattle.mps.specs.Layout.{Entry, idOf, sourceBus}
 use Rattle.mps.specs.Sections.{rows}
 use Rattle.laws.proofs.Tests.{whether, or-swap}
-use Rattle.laws.proofs.Bits.{bit-none, bit-power, bit-or}
-use Rattle.laws.proofs.Lists.{keep-in, keep-out, keep-most, keep-nothing}
-use Rattle.laws.proofs.Rising.{length-rising, keep-rising, keep-more, keep-again}
+use Rattle.laws.proofs.Lists.{keep-in, keep-out, keep-nothing}
+use Rattle.laws.proofs.Rising.{keep-rising, keep-more, keep-again}
 use Rattle.laws.proofs.Rows.{rows-done, rows-next, row-byte}
 use Rattle.roll.specs.Roll.{busBit, marked}
-use Rattle.slots.specs.Sets.{slotsMost, slotNumber, namedOn, hasSlot, withSlot, slotsIn, Held}
+use Rattle.sets.specs.Sets.{holds, withNumber}
+use Rattle.sets.proofs.Words.{shift-put}
+use Rattle.sets.proofs.Laws.{length-put, holds-put}
+use Rattle.slots.specs.Sets.{slotNumber, namedOn, Held}
 
--- ---- What is in a set
+-- ---- One slot more
 
--- Behind its last word there is nothing, and in words that are 0 neither.
-pub has-past : (words : List ℕ) (n : ℕ) → length words ≤ n / 64 → hasSlot words n ≡ false
-unfolding hasSlot
-has-past words n h = rw (List·getD-eq-default words 0 h) (bit-none (n % 64))
-
-has-none : (words : List ℕ) → ((k : ℕ) → getD words k 0 ≡ 0) → (n : ℕ) → hasSlot words n ≡ false
-unfolding hasSlot
-has-none words z n = rw (z (n / 64)) (bit-none (n % 64))
-
--- So the first words of a new array are an empty set.
-pub cut-none :
-    (size n : ℕ) → n ≤ size
-    → let words : List ℕ = take {A = ℕ} (n - 0) (replicate {A = ℕ} size 0) in (length words ≡ n) × ((m : ℕ) → hasSlot words m ≡ false)
-cut-none size n h =
-    let all : List ℕ = replicate {A = ℕ} size 0 in
-    (length-take-le (n - 0) all (omega (arith, h, length-replicate {A = ℕ} size 0)) ∙ omega arith, has-none (take (n - 0) all) (zeros (n - 0) size))
-  where
-    zeros : (a b k : ℕ) → getD (take {A = ℕ} a (replicate {A = ℕ} b 0)) k 0 ≡ 0
-    zeros zero b k = refl
-    zeros (suc a) zero k = refl
-    zeros (suc a) (suc b) zero = refl
-    zeros (suc a) (suc b) (suc k) = zeros a b k
-
-pub length-with : (words : List ℕ) (n : ℕ) → length (withSlot words n) ≡ length words
-unfolding withSlot
-length-with words n = length-set words (n / 64) (bitOr (getD words (n / 64) 0) (2 ^ (n % 64)))
-
--- A slot that is put in is in then, and who was in before.
-has-with : (words : List ℕ) (n m : ℕ) → n / 64 < length words → hasSlot (withSlot words n) m ≡ (eqb m n || hasSlot words m)
-unfolding hasSlot withSlot
-has-with words n m h =
-    let old = getD words (n / 64) 0 in
-    let new = bitOr old (2 ^ (n % 64)) in
-    whether (eqb (m / 64) (n / 64))
-    (λ t. let k = eqb-true (m / 64) (n / 64) t in
-    rw (k, getD-set-same words (n / 64) new 0 h, bit-or (m % 64) old (2 ^ (n % 64)), bit-power (m % 64) (n % 64))
-    (or-comm (bit (m % 64) old) (eqb (m % 64) (n % 64)) ∙ ap (λ (b : Bool). b || bit (m % 64) old) (same k)))
-    (λ f. let k = eqb-false (m / 64) (n / 64) f in
-    rw (getD-set-other words (n / 64) (m / 64) new 0 k, ne-eqb m n (λ e. k (omega (arith, e)))))
-  where
-    same : m / 64 ≡ n / 64 → eqb (m % 64) (n % 64) ≡ eqb m n
-    same k =
-        whether (eqb m n)
-        (λ t. rw t (eq-eqb (m % 64) (n % 64) (omega (arith, eqb-true m n t))))
-        (λ f. rw f (ne-eqb (m % 64) (n % 64) (λ e. eqb-false m n f (omega (arith, e, k)))))
-
--- The word that is kept at hand is the slot's; and it is taken up where it was not.
-module _ (words : List ℕ) (n : ℕ) (h : n / 64 < length words) where
-  pub kept-put : (k word : ℕ) → k ≡ n / 64 → set words k (bitOr word (1 * 2 ^ (n % 64) % 2 ^ 64)) ≡ withSlot (set words k word) n
-  unfolding withSlot
-  kept-put k word e =
-      rw (e, shl-exact {a = 1} 1 (n % 64) 64 (omega arith) (omega arith), one-mul (2 ^ (n % 64)), getD-set-same words (n / 64) word 0 h)
-      (sym (set-set words (n / 64) word (bitOr word (2 ^ (n % 64)))))
-
-  pub taken-put : set words (n / 64) (bitOr (getD words (n / 64) 0) (1 * 2 ^ (n % 64) % 2 ^ 64)) ≡ withSlot words n
-  taken-put = kept-put (n / 64) (getD words (n / 64) 0) refl ∙ rw (set-getD words (n / 64) 0)
+-- Put in by the word that is kept at hand, where it is the slot's.
+pub kept-put :
+    (words : List ℕ) (n : ℕ) → n / 64 < length words → (k word : ℕ) → k ≡ n / 64
+    → set words k (bitOr word (1 * 2 ^ (n % 64) % 2 ^ 64)) ≡ withNumber (set words k word) n
+kept-put words n h k word e =
+    let new = bitOr word (1 * 2 ^ (n % 64) % 2 ^ 64) in
+    rw e (sym (set-set words (n / 64) word new) ∙ rw (getD-set-same words (n / 64) word 0 h) at (shift-put (set words (n / 64) word) n))
 
 -- ---- How many there are
-
-pub slots-few : (words : List ℕ) → length (slotsIn words) ≤ slotsMost
-unfolding slotsIn
-slots-few words = omega (arith, keep-most (hasSlot words) (below slotsMost), length-rising slotsMost 0)
 
 -- No more than the numbers that they are among.
 pub among-few : (ns : List ℕ) (k : ℕ) → length (keep (λ (n : ℕ). among n ns) (below k)) ≤ length ns
@@ -131,11 +77,11 @@ module _ (s : List ℕ) (top at : ℕ) (inv : Tops s top at) where
 -- What it keeps: what the rows left name and what is in the set are together what there is to be.
 abbrev pub Notes : List ℕ → List ℕ → List ℕ → List ℕ → ℕ → Type 0
 Notes words₀ roll s words at =
-    ((n : ℕ) → (among n (namedOn roll (rows 8 (drop at s))) || hasSlot words n) ≡ (among n (namedOn roll (rows 8 s)) || hasSlot words₀ n))
+    ((n : ℕ) → (among n (namedOn roll (rows 8 (drop at s))) || holds words n) ≡ (among n (namedOn roll (rows 8 s)) || holds words₀ n))
     × (at ≤ length s) × (length words ≡ length words₀)
 
 module _ (words₀ roll s words : List ℕ) (at : ℕ) (inv : Notes words₀ roll s words at) where
-  pub notes-done : length s - at < 8 → (n : ℕ) → hasSlot words n ≡ (among n (namedOn roll (rows 8 s)) || hasSlot words₀ n)
+  pub notes-done : length s - at < 8 → (n : ℕ) → holds words n ≡ (among n (namedOn roll (rows 8 s)) || holds words₀ n)
   unfolding namedOn keep each among
   notes-done f n = rw (rows-done 8 s at (inv .1) f) at (inv .0 n)
 
@@ -156,16 +102,16 @@ module _ (words₀ roll s words : List ℕ) (at : ℕ) (inv : Notes words₀ rol
 
     pub notes-in :
         {n : ℕ} {u : List ℕ} → r ≡ true → n ≡ slotNumber (getD s (at + 4) 0) (getD s (at + 5) 0) → n / 64 < length words
-        → u ≡ withSlot words n → Notes words₀ roll s u (at + 8)
+        → u ≡ withNumber words n → Notes words₀ roll s u (at + 8)
     unfolding namedOn each among
     notes-in {n} t g h v =
         let here : namedOn roll (rows 8 (drop at s)) ≡ n ∷ namedOn roll rest =
         rw (rows-next 8 s at (omega arith) (inv .1) f, keep-in (λ (x : Entry). marked busBit roll (sourceBus x)) row rest (on ∙ t), row-byte 8 s at 4 (omega arith), row-byte 8 s at 5 (omega arith), g) in (
-          λ m. rw (v, has-with words n m h)
-              (or-swap (among m (namedOn roll rest)) (eqb m n) (hasSlot words m)
-              ∙ sym (or-assoc (eqb m n) (among m (namedOn roll rest)) (hasSlot words m)) ∙ rw here at (inv .0 m)),
+          λ m. rw (v, holds-put words n m (λ e. omega (arith, h)))
+              (or-swap (among m (namedOn roll rest)) (eqb m n) (holds words m)
+              ∙ sym (or-assoc (eqb m n) (among m (namedOn roll rest)) (holds words m)) ∙ rw here at (inv .0 m)),
           omega (arith, f),
-          rw v (length-with words n ∙ inv .2),
+          rw v (length-put words n ∙ inv .2),
         )
 
     pub notes-out : r ≡ false → Notes words₀ roll s words (at + 8)

@@ -1,23 +1,21 @@
 -- Laws of what is written in the room: a slot, those of a word, and those of a set. Assumes nothing.
 use Prim.Native.Nat.{ℕ, suc, _+_, _-_, _*_, _/_, _%_, _^_, _≤_, _<_}
-use mathlib.Core.Path.{_≡_, refl, ap, _∙_}
-use mathlib.Core.Bool.{false}
-use mathlib.Core.List.{List, [], _∷_, _++_}
+use mathlib.Core.Path.{_≡_, refl, ap}
+use mathlib.Core.List.{List, _++_}
 use native.Mathlib.Omega.{arith}
 use native.Mathlib.Numerals.{add-one}
 use lib.Bits.{bitAnd, and-le-r}
-use lib.Count.{trailingZeros, ones}
+use lib.Count.{trailingZeros}
 use lib.ListN.{length, getD, set, length-append}
 use lib.Seq.{sets}
-use Rattle.mps.specs.Words.{bit, keep, joined, rising}
+use Rattle.mps.specs.Words.{joined}
 use Rattle.mps.specs.Slots.{slotSize}
-use Rattle.laws.proofs.Lists.{keep-append, keep-nothing}
 use Rattle.laws.proofs.Joined.{joined-append, joined-length}
-use Rattle.laws.proofs.Rising.{rising-append, keep-rising}
 use Rattle.laws.proofs.Writes.{Writes, writes-first, writes-done, writes-next}
-use Rattle.slots.specs.Sets.{slotBytes, hasSlot, slotsIn, setBits}
-use Rattle.slots.proofs.Bits.{bits-none, bits-lowest, bits-count, bits-keep}
-use Rattle.slots.proofs.Sets.{has-past}
+use Rattle.sets.specs.Sets.{members, setBits}
+use Rattle.sets.proofs.Bits.{bits-none, bits-lowest}
+use Rattle.sets.proofs.Words.{membersFrom, members-first, members-next, members-done}
+use Rattle.slots.specs.Sets.{slotBytes}
 
 -- ---- One slot
 
@@ -73,75 +71,28 @@ module _ (t : List ℕ) (at : ℕ) (w : List ℕ) (first : ℕ) (out : List ℕ)
 
 -- ---- The slots of a set
 
--- Those from word k on.
-unfoldable pub slotsFrom : List ℕ → ℕ → List ℕ
-slotsFrom words k = keep (hasSlot words) (rising ((512 - k) * 64) (k * 64))
-
-module _ (words : List ℕ) (k : ℕ) where
-  own : (j : ℕ) → j < 64 → hasSlot words (k * 64 + j) ≡ bit j (getD words k 0)
-  unfolding hasSlot
-  own j h =
-      let at : (k * 64 + j) / 64 ≡ k = omega arith in
-      let by : (k * 64 + j) % 64 ≡ j = omega arith in
-      rw (at, by)
-
-  from-next : k < 512 → slotsFrom words k ≡ setBits 64 (k * 64) (getD words k 0) ++ slotsFrom words (k + 1)
-  unfolding slotsFrom
-  from-next h =
-      let left : (512 - k) * 64 ≡ 64 + (512 - (k + 1)) * 64 = omega arith in
-      let next : (k + 1) * 64 ≡ 64 + k * 64 = omega arith in
-      rw (left, next, rising-append 64 ((512 - (k + 1)) * 64) (k * 64), ← bits-keep (hasSlot words) 64 (k * 64) (getD words k 0) own)
-      (keep-append (hasSlot words) (rising 64 (k * 64)) (rising ((512 - (k + 1)) * 64) (64 + k * 64)))
-
-  from-done : length words ≤ k → slotsFrom words k ≡ []
-  unfolding slotsFrom
-  from-done h =
-      keep-rising (hasSlot words) (λ (n : ℕ). false) ((512 - k) * 64) (k * 64) (λ n a b. has-past words n (omega (arith, a, h)))
-      ∙ keep-nothing (rising ((512 - k) * 64) (k * 64))
-
-from-first : (words : List ℕ) → slotsFrom words 0 ≡ slotsIn words
-unfolding slotsFrom slotsIn
-from-first words = refl
-
 -- What the loop keeps.
 abbrev pub Fills : List ℕ → List ℕ → List ℕ → ℕ → ℕ → Type 0
-Fills t words out place k = Writes t 0 (joined slotBytes (slotsIn words)) out place (joined slotBytes (slotsFrom words k))
+Fills t words out place k = Writes t 0 (joined slotBytes (members words)) out place (joined slotBytes (membersFrom words k))
 
 pub fills-first : (t words : List ℕ) → Fills t words t 0 0
-fills-first t words = rw (from-first words) (writes-first t 0 _)
+fills-first t words = rw (members-first words) (writes-first t 0 _)
 
 module _ (t words out : List ℕ) (place k : ℕ) (inv : Fills t words out place k) where
-  pub fills-done : length words ≤ k → (place ≡ length (joined slotBytes (slotsIn words))) × (out ≡ sets t 0 (joined slotBytes (slotsIn words)))
+  pub fills-done : length words ≤ k → (place ≡ length (joined slotBytes (members words))) × (out ≡ sets t 0 (joined slotBytes (members words)))
   unfolding joined
-  fills-done h = let e = writes-done inv (ap (joined slotBytes) (from-done words k h)) in (omega (arith, e .0), e .1)
+  fills-done h = let e = writes-done inv (ap (joined slotBytes) (members-done words k h)) in (omega (arith, e .0), e .1)
 
-  module _ (h : k < 512) where
+  module _ (h : k < length words) where
     abbrev here : List ℕ
     here = joined slotBytes (setBits 64 (k * 64) (getD words k 0))
 
-    next-word : joined slotBytes (slotsFrom words k) ≡ here ++ joined slotBytes (slotsFrom words (k + 1))
-    next-word = rw (from-next words k h) (joined-append slotBytes (setBits 64 (k * 64) (getD words k 0)) (slotsFrom words (k + 1)))
+    next-word : joined slotBytes (membersFrom words k) ≡ here ++ joined slotBytes (membersFrom words (k + 1))
+    next-word = rw (members-next words k h) (joined-append slotBytes (setBits 64 (k * 64) (getD words k 0)) (membersFrom words (k + 1)))
 
-    pub fills-room : place + length here ≤ length (slotsIn words) * 3
+    pub fills-room : place + length here ≤ length (members words) * 3
     fills-room =
-        omega (arith, inv .end, length-slots (slotsIn words), ap length next-word, length-append here (joined slotBytes (slotsFrom words (k + 1))))
+        omega (arith, inv .end, length-slots (members words), ap length next-word, length-append here (joined slotBytes (membersFrom words (k + 1))))
 
     pub fills-next : {u : List ℕ} {q : ℕ} → q ≡ place + length here → u ≡ sets out place here → Fills t words u q (k + 1)
     fills-next e g = writes-next inv here _ next-word e g
-
--- ---- How many there are
-
--- What the loop keeps: with those left they are all.
-abbrev pub Counts : List ℕ → ℕ → ℕ → Type 0
-Counts words n k = n + length (slotsFrom words k) ≡ length (slotsIn words)
-
-pub counts-first : (words : List ℕ) → Counts words 0 0
-counts-first words = omega (arith, ap length (from-first words))
-
-module _ (words : List ℕ) (n k : ℕ) (inv : Counts words n k) where
-  pub counts-done : length words ≤ k → n ≡ length (slotsIn words)
-  counts-done h = omega (arith, inv, ap length (from-done words k h))
-
-  pub counts-next : k < 512 → getD words k 0 < 2 ^ 64 → Counts words (n + ones (getD words k 0)) (k + 1)
-  counts-next h b =
-      omega (arith, inv, ap length (from-next words k h), length-append (setBits 64 (k * 64) (getD words k 0)) (slotsFrom words (k + 1)), bits-count 64 (k * 64) (getD words k 0) b)

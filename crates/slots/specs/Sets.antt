@@ -1,13 +1,10 @@
--- Slots as numbers, and sets of them, as the code makes the listing. A slot is bus * 128 + device * 4 + pin, so that the
+-- Slots as numbers, as the code makes the listing from a set of them. A slot is bus * 128 + device * 4 + pin, so that the
 -- numbers rise as the listing does. That the listing is made of these numbers: proofs/Laws.antt.
-use Prim.Native.Nat.{ℕ, zero, suc, _+_, _*_, _/_, _%_, _^_, _<_}
+use Prim.Native.Nat.{ℕ, _+_, _*_, _/_, _%_, _<_}
 use mathlib.Core.Path.{_≡_}
 use mathlib.Core.Bool.{Bool, true, _&&_}
-use mathlib.Core.List.{List, [], _∷_, _++_}
-use lib.Bits.{bitOr}
-use lib.Dec.{eqb}
-use lib.ListN.{getD, set}
-use Rattle.mps.specs.Words.{bit, among, any, only, keep, each, joined, below}
+use mathlib.Core.List.{List, [], _∷_}
+use Rattle.mps.specs.Words.{among, any, keep, each, joined, below}
 use Rattle.mps.specs.Layout.{Entry, sourceBus, sourceIrq, busSlots, pins, devices}
 use Rattle.mps.specs.Slots.{Slot, slot, namesSlot, onPci}
 use Rattle.roll.specs.Roll.{busBit, marked}
@@ -44,24 +41,6 @@ slotBytes n = n / busSlots ∷ n / pins % devices ∷ n % pins ∷ []
 -- The bytes of these, each once, rising.
 unfoldable pub listedOn : List ℕ → List Entry → List ℕ
 listedOn roll es = joined slotBytes (keep (λ (n : ℕ). among n (namedOn roll es)) (below slotsMost))
-
--- ---- The sets: number n is bit n % 64 of word n / 64
-
-unfoldable pub hasSlot : List ℕ → ℕ → Bool
-hasSlot words n = bit (n % 64) (getD words (n / 64) 0)
-
--- A set with one number more.
-unfoldable pub withSlot : List ℕ → ℕ → List ℕ
-withSlot words n = set words (n / 64) (bitOr (getD words (n / 64) 0) (2 ^ (n % 64)))
-
--- The numbers in a set, rising.
-unfoldable pub slotsIn : List ℕ → List ℕ
-slotsIn words = keep (hasSlot words) (below slotsMost)
-
--- The numbers of a word's bits that are set, its first d bits being numbered from n on.
-unfoldable pub setBits : ℕ → ℕ → ℕ → List ℕ
-setBits zero n word = []
-setBits (suc d) n word = only (eqb (word % 2) 1) (n ∷ []) ++ setBits d (suc n) (word / 2)
 
 -- So many words are enough for the slots on the buses of a roll, of which each has two.
 abbrev pub Held : List ℕ → ℕ → Type 0

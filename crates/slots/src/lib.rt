@@ -23,7 +23,8 @@ ghost use Rattle.mps.specs.Judge.{tableRefusal};
 ghost use Rattle.mps.specs.Rooms.{fitted, fitLeft};
 ghost use Rattle.mps.specs.Slots.{slotSize, slotsListed, slotsLeft};
 ghost use Rattle.judge.specs.Placed.{Placed};
-ghost use Rattle.slots.specs.Sets.{slotsMost, slotNumber, namedOn, listedOn, slotBytes, setWords, hasSlot, slotsIn, Held, setBits};
+ghost use Rattle.sets.specs.Sets.{holds, members, setBits};
+ghost use Rattle.slots.specs.Sets.{slotsMost, slotNumber, namedOn, listedOn, slotBytes, setWords, Held};
 
 // The slots stand in the room from its first byte on.
 pub fn list(t: &[u8], out: &mut [u8]) -> Lent
@@ -77,7 +78,7 @@ fn top(s: &[u8]) -> usize
 
 // The slots that the entries name on the buses of the roll, by an empty set that has words for these.
 fn of_set(set: &mut [u64], pci: &[u8; 256], s: &[u8], out: &mut [u8]) -> Lent
-    requires { ⌜ (0 < length (now set)) × (length (now set) ≤ setWords) × ((n : ℕ) → hasSlot (now set) n ≡ false) × (Held (now pci) (length (now set))) ⌝ }
+    requires { ⌜ (0 < length (now set)) × (length (now set) ≤ setWords) × ((n : ℕ) → holds (now set) n ≡ false) × (Held (now pci) (length (now set))) ⌝ }
     ensures { λ r. ⌜
         r ≡ fitted (listedOn (now (pci .entry)) (rows entrySize (now (s .entry))))
         (length (listedOn (now (pci .entry)) (rows entrySize (now (s .entry)))) / slotSize) (now (out .entry))
@@ -108,7 +109,7 @@ fn number(bus: u8, irq: u8) -> usize
 fn note(set: &mut [u64], pci: &[u8; 256], s: &[u8])
     requires { ⌜ (0 < length (now set)) × (length (now set) ≤ setWords) × (Held (now pci) (length (now set))) ⌝ }
     ensures { λ _. ⌜
-        ((n : ℕ) → hasSlot (now (set .exit)) n ≡ (among n (namedOn (now (pci .entry)) (rows entrySize (now (s .entry)))) || hasSlot (now (set .entry)) n))
+        ((n : ℕ) → holds (now (set .exit)) n ≡ (among n (namedOn (now (pci .entry)) (rows entrySize (now (s .entry)))) || holds (now (set .entry)) n))
         ⌝ }
 {
     let mut k = 0;
@@ -133,7 +134,7 @@ fn note(set: &mut [u64], pci: &[u8; 256], s: &[u8])
 // How many slots are in a set.
 fn count(set: &[u64]) -> usize
     requires { ⌜ length (now set) ≤ setWords ⌝ }
-    ensures { λ r. ⌜ r ≡ length (slotsIn (now (set .entry))) ⌝ }
+    ensures { λ r. ⌜ r ≡ length (members (now (set .entry))) ⌝ }
 {
     let mut n = 0;
     let mut k = 0;
@@ -146,8 +147,8 @@ fn count(set: &[u64]) -> usize
 
 // Whether there is room for so many slots as are in a set. Where the most that can be fit they need not be counted.
 fn fits(set: &[u64], most: usize, room: usize) -> bool
-    requires { ⌜ (length (now set) ≤ setWords) × (length (slotsIn (now set)) ≤ most) ⌝ }
-    ensures { λ r. ⌜ r ≡ leb (length (slotsIn (now (set .entry)))) room ⌝ }
+    requires { ⌜ (length (now set) ≤ setWords) × (length (members (now set)) ≤ most) ⌝ }
+    ensures { λ r. ⌜ r ≡ leb (length (members (now (set .entry)))) room ⌝ }
 {
     if most <= room {
         return true;
@@ -185,9 +186,9 @@ fn put_word(out: &mut [u8], at: usize, word: u64, first: usize) -> usize
 
 // All slots of a set, from the room's first byte on; answers the place behind them.
 fn write(out: &mut [u8], set: &[u64]) -> usize
-    requires { ⌜ (length (now set) ≤ setWords) × (length (slotsIn (now set)) * slotSize ≤ length (now out)) ⌝ }
-    ensures { λ r. ⌜ r ≡ length (joined slotBytes (slotsIn (now (set .entry)))) ⌝ }
-    ensures { λ _. ⌜ now (out .exit) ≡ sets (now (out .entry)) 0 (joined slotBytes (slotsIn (now (set .entry)))) ⌝ }
+    requires { ⌜ (length (now set) ≤ setWords) × (length (members (now set)) * slotSize ≤ length (now out)) ⌝ }
+    ensures { λ r. ⌜ r ≡ length (joined slotBytes (members (now (set .entry)))) ⌝ }
+    ensures { λ _. ⌜ now (out .exit) ≡ sets (now (out .entry)) 0 (joined slotBytes (members (now (set .entry)))) ⌝ }
 {
     let mut place = 0;
     let mut k = 0;

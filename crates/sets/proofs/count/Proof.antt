@@ -4,7 +4,8 @@ use native.Mathlib.Omega.{arith}
 use lib.Count.{ones, ones-le}
 use lib.ListN.{length, getD}
 use borrow.Author.Needs.{needs}
-use Rattle.sets.proofs.Laws.{members-few, Counts, counts-first, counts-done, counts-next}
+use Rattle.sets.proofs.Words.{Counts, counts-first, counts-done, counts-next}
+use Rattle.sets.proofs.Laws.{members-few}
 use Rattle.sets.proofs.count.Statement.{statement}
 use Rattle.sets.proofs.count.Tie as tie
 

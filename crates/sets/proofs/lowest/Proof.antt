@@ -6,7 +6,7 @@ use lib.Count.{trailingZeros}
 use lib.ListN.{length, getD}
 use borrow.Author.Needs.{needs}
 use Rattle.sets.specs.Sets.{lowestOut}
-use Rattle.sets.proofs.Laws.{lowestFrom, lowest-first, lowest-done, lowest-next, lowest-here}
+use Rattle.sets.proofs.Words.{lowestFrom, lowest-first, lowest-done, lowest-next, lowest-here}
 use Rattle.sets.proofs.lowest.Statement.{statement}
 use Rattle.sets.proofs.lowest.Tie as tie
 

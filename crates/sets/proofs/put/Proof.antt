@@ -1,6 +1,6 @@
 -- `put` meets its contract: one word is stored, with the bit that a shift makes.
 use borrow.Author.Needs.{needs}
-use Rattle.sets.proofs.Laws.{shift-put}
+use Rattle.sets.proofs.Words.{shift-put}
 use Rattle.sets.proofs.put.Statement.{statement}
 use Rattle.sets.proofs.put.Tie as tie
 

@@ -4,8 +4,8 @@ use native.Mathlib.Omega.{arith}
 use lib.Count.{ones, ones-le}
 use lib.ListN.{length, getD}
 use borrow.Author.Needs.{needs}
-use Rattle.slots.proofs.Sets.{slots-few}
-use Rattle.slots.proofs.Writing.{Counts, counts-first, counts-done, counts-next}
+use Rattle.sets.proofs.Words.{Counts, counts-first, counts-done, counts-next}
+use Rattle.sets.proofs.Laws.{members-few}
 use Rattle.slots.proofs.count.Statement.{statement}
 use Rattle.slots.proofs.count.Tie as tie
 
@@ -23,7 +23,7 @@ next :
     Counts s (l .n + ones (getD s (l .k) 0)) (l .k + 1)
 next c =
     let l = c .before .before .loop in
-    counts-next _ _ _ (l .inv .0) (omega (arith, c .before .before .before .pre, c .before .loop-test .taken)) (omega (arith, c .shared-slice-known .given (l .k)))
+    counts-next _ _ _ (l .inv .0) (c .before .loop-test .taken) (omega (arith, c .shared-slice-known .given (l .k)))
 
 few :
     (c : tie.After-shared-slice-known Inv-loop μ-loop) → let l = c .before .before .loop in let s = c .before .before .before .args .set .now in
@@ -40,7 +40,7 @@ cast-n : tie.Need-cast-n Inv-loop μ-loop
 cast-n c = omega (arith, few c)
 
 add-n : tie.Need-add-n Inv-loop μ-loop
-add-n c = omega (arith, few c, next c, slots-few (c .before .before .before .args .set .now))
+add-n c = omega (arith, few c, next c, members-few (c .before .before .before .args .set .now))
 
 add-k : tie.Need-add-k Inv-loop μ-loop
 add-k c = omega (arith, c .before .before .before .pre)

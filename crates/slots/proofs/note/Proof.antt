@@ -6,7 +6,8 @@ use native.Mathlib.Omega.{arith}
 use lib.ListN.{length, set, length-set}
 use lib.Seq.{set-getD}
 use borrow.Author.Needs.{needs}
-use Rattle.slots.proofs.Sets.{Notes, notes-done, notes-inside, notes-in, notes-out, kept-put, taken-put}
+use Rattle.sets.proofs.Words.{shift-put}
+use Rattle.slots.proofs.Sets.{Notes, notes-done, notes-inside, notes-in, notes-out, kept-put}
 use Rattle.slots.proofs.note.Statement.{statement}
 use Rattle.slots.proofs.note.Tie as tie
 
@@ -47,7 +48,7 @@ loop-again c =
     let inside = notes-inside _ _ _ _ _ (l .inv .0) (omega arith) told (w .0 .taken) (omega (arith, w .1 .given (l .at + 4))) (pre .2) n in
     rw (w .5, w .6, w .7)
     (⊎-elim
-    (λ v. rw (v .2, v .3, v .4) (notes-in _ _ _ _ _ (l .inv .0) (omega arith) told (w .0 .taken) n inside (taken-put (set (l .set) (l .k) (l .word)) (w .2 .result) inside), inside, same ∙ l .inv .2))
+    (λ v. rw (v .2, v .3, v .4) (notes-in _ _ _ _ _ (l .inv .0) (omega arith) told (w .0 .taken) n inside (shift-put (set (l .set) (l .k) (l .word)) (w .2 .result)), inside, same ∙ l .inv .2))
     (λ v. rw (v .1, v .2, v .3)
     (notes-in _ _ _ _ _ (l .inv .0) (omega arith) told (w .0 .taken) n inside (kept-put (l .set) (w .2 .result) (omega (arith, inside, same)) (l .k) (l .word) (omega (arith, v .0 .left))), l .inv .1, l .inv .2))
     (w .3 .came)))

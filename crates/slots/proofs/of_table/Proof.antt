@@ -3,8 +3,8 @@ use Prim.Native.Nat.{ℕ, _*_}
 use mathlib.Core.Path.{_≡_}
 use native.Mathlib.Omega.{arith}
 use borrow.Author.Needs.{needs}
+use Rattle.sets.proofs.Laws.{cut-none}
 use Rattle.slots.specs.Sets.{Held}
-use Rattle.slots.proofs.Sets.{cut-none}
 use Rattle.slots.proofs.Laws.{slots-listed, buses-held}
 use Rattle.slots.proofs.Answering.{listed-late}
 use Rattle.slots.proofs.of_table.Statement.{statement}

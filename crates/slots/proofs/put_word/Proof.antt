@@ -5,7 +5,8 @@ use lib.Count.{trailingZeros}
 use lib.ListN.{length}
 use Rattle.mps.specs.Words.{joined}
 use Rattle.laws.proofs.Writes.{writes-first}
-use Rattle.slots.specs.Sets.{slotBytes, setBits}
+use Rattle.sets.specs.Sets.{setBits}
+use Rattle.slots.specs.Sets.{slotBytes}
 use Rattle.slots.proofs.Writing.{Spells, spells-done, spells-inside, spells-room, spells-less, spells-next}
 use Rattle.slots.proofs.put_word.Statement.{statement}
 use Rattle.slots.proofs.put_word.Tie as tie

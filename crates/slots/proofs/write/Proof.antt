@@ -31,7 +31,7 @@ mul-put-word-2 c = omega (arith, inside (c .before .before))
 put-word-requires : tie.Need-put-word-requires Inv-loop μ-loop
 put-word-requires c κs =
     let w = c .before .before in
-    let room = fills-room _ _ _ _ _ (w .before .loop .inv .0) (inside w) in
+    let room = fills-room _ _ _ _ _ (w .before .loop .inv .0) (w .loop-test .taken) in
     (omega (arith, inside w), omega (arith, room, w .before .before .before .before .pre .1, w .before .loop .inv .0 .room))
 
 add-k : tie.Need-add-k Inv-loop μ-loop
@@ -44,7 +44,7 @@ loop-again : tie.Need-loop-again Inv-loop μ-loop
 loop-again c =
     let w = c .before .before .before .before .before in
     let put = c .before .before .put-word .ensures in
-    (fills-next _ _ _ _ _ (w .before .loop .inv .0) (inside w) (put .0) (put .1), omega (arith, w .loop-test .taken))
+    (fills-next _ _ _ _ _ (w .before .loop .inv .0) (w .loop-test .taken) (put .0) (put .1), omega (arith, w .loop-test .taken))
 
 same-length : tie.Need-same-length Inv-loop μ-loop
 same-length c = c .before .loop .inv .0 .room
