@@ -4,7 +4,8 @@
 // comes of calling entries over a roll, one after the other, is `called` of specs/Calls.antt, and what follows from these
 // definitions stands in proofs/Laws.antt.
 //
-// One byte for each ID, and lent: four words by value, as `sets` has them, are copied at each call.
+// One byte for each ID: it has a bit for each kind of holder, where a set of `sets` has one. Lent, since an array by value is
+// copied at each call.
 ghost use mathlib.Core.Path.{_≡_};
 ghost use Prim.Native.Nat.{_%_};
 ghost use Rattle.roll.specs.Roll.{marked, withMarks};
