@@ -1,8 +1,8 @@
--- The numbers of an accepted table's APICs: no enabled one has 255, those that are held are apart and below 255, and whether one
--- that needs a new number finds none is a matter of how many there are. Assumes nothing.
+-- The numbers of an accepted table's enabled APICs: those that are held are apart and below 255, and whether one that needs a new
+-- number finds none is a matter of how many there are. Assumes nothing.
 use Prim.Native.Nat.{ℕ, _+_}
 use mathlib.Core.Path.{_≡_, sym, _∙_}
-use mathlib.Core.Bool.{Bool, true, false, not, or-true, false≢true}
+use mathlib.Core.Bool.{Bool, true, false, not, false≢true}
 use mathlib.Core.List.{List}
 use native.Mathlib.Omega.{arith}
 use lib.ListN.{length, length-append}
@@ -10,40 +10,20 @@ use lib.Dec.{ltb}
 use borrow.Author.Tests.{ltb-true, lt-ltb, not-true}
 use Rattle.mps.specs.Words.{among, twice, keep, each}
 use Rattle.mps.specs.Layout.{Entry, ofType, processorType, ioApicType, everyone, enabled, idOf, baseEntries}
-use Rattle.mps.specs.Rules.{enabledOf, enabledIds, wrongProcessors, wrongIoApics}
-use Rattle.mps.specs.Judge.{tableRules, tableRefusal}
+use Rattle.mps.specs.Rules.{enabledOf, enabledIds}
+use Rattle.mps.specs.Judge.{tableRefusal}
 use Rattle.mps.specs.Renumber.{shares, keptIds, free, heldIds, noneFree}
-use Rattle.laws.proofs.Tests.{contrary, either, same-test}
+use Rattle.laws.proofs.Tests.{either, same-test}
 use Rattle.laws.proofs.Lists.{length-each, keep-each}
-use Rattle.laws.proofs.Refusals.{refusal-pass}
 use Rattle.laws.proofs.Small.{Bytes, below-each, small-keep, small-base}
 use Rattle.laws.proofs.Pigeons.{among-byte}
 use Rattle.laws.proofs.Counting.{Below, keep-both, among-append, among-kept, apart-kept, apart-append}
 use Rattle.laws.proofs.Renumber.{free-count, finds-count}
-use Rattle.accepted.proofs.Sound.{sound, sound-rest}
 use Rattle.accepted.proofs.Obeyed.{obeyed}
 
--- ---- "ID 255" is refused: 14 and 16
+-- ---- The IDs of the enabled ones
 
-processor-255 : (t : List ℕ) → among everyone (enabledIds processorType (baseEntries t)) ≡ true → wrongProcessors t ≡ true
-unfolding wrongProcessors
-processor-255 t e = rw (e, or-true)
-
-ioapic-255 : (es : List Entry) → among everyone (enabledIds ioApicType es) ≡ true → wrongIoApics es ≡ true
-unfolding wrongIoApics
-ioapic-255 es e = rw e
-
-pub own-ids : (t : List ℕ) → tableRefusal t ≡ 0
-    → (among everyone (enabledIds processorType (baseEntries t)) ≡ false)
-    × (among everyone (enabledIds ioApicType (baseEntries t)) ≡ false)
-unfolding tableRules
-own-ids t a =
-    let fourteen = refusal-pass 14 _ _ (omega arith) (sym (sound-rest t (sound t a)) ∙ a) in
-    let fifteen = refusal-pass 15 _ _ (omega arith) (fourteen .1) in
-    let sixteen = refusal-pass 16 _ _ (omega arith) (fifteen .1) in
-    (contrary _ _ (processor-255 t) (fourteen .0), contrary _ _ (ioapic-255 (baseEntries t)) (sixteen .0))
-
--- Of bytes, so each is below it.
+-- None is 255, so of bytes each is below it.
 ids-below : (n : ℕ) (t : List ℕ) → Bytes t → among everyone (enabledIds n (baseEntries t)) ≡ false
     → Below everyone (enabledIds n (baseEntries t))
 unfolding enabledIds enabledOf
@@ -88,10 +68,10 @@ module _ (t : List ℕ) (a : tableRefusal t ≡ 0) where
 
   module _ (b : Bytes t) where
     pub processors-below : Below everyone (enabledIds processorType (baseEntries t))
-    processors-below = ids-below processorType t b (own-ids t a .0)
+    processors-below = ids-below processorType t b (obeyed t a .processors-own)
 
     pub ioapics-below : Below everyone (enabledIds ioApicType (baseEntries t))
-    ioapics-below = ids-below ioApicType t b (own-ids t a .1)
+    ioapics-below = ids-below ioApicType t b (obeyed t a .ioapics-own)
 
     pub kept-below : Below everyone (keptIds (baseEntries t))
     kept-below z h = ioapics-below z (kept-in (baseEntries t) z h .0)
