@@ -103,6 +103,18 @@ apart-append (x ∷ a) b d e f =
     rw (among-append x a b, h .0, none)
     (apart-append a b (h .1) e (λ z t. or-parts (eqb z x) (among z a) (f z t) .1))
 
+-- And back: where two lists, one behind the other, are apart, so is the second, and none of it is among the first.
+pub apart-parts : (a b : List ℕ) → twice (a ++ b) ≡ false → (twice b ≡ false) × ((z : ℕ) → among z b ≡ true → among z a ≡ false)
+unfolding twice among
+apart-parts [] b d = (d, λ z h. refl)
+apart-parts (x ∷ a) b d =
+    let h = or-parts (among x (a ++ b)) (twice (a ++ b)) d in
+    let r = apart-parts a b (h .1) in
+    let none = or-parts (among x a) (among x b) (sym (among-append x a b) ∙ h .0) .1 in
+    let other : (z : ℕ) → among z b ≡ true → eqb z x ≡ false =
+    λ z t. ne-eqb z x (λ q. false≢true (sym none ∙ rw q at t)) in
+    (r .0, λ z t. rw (other z t) (r .1 z t))
+
 -- Of a range they are as many as there are of them.
 pub apart-count : (n : ℕ) (xs : List ℕ) → twice xs ≡ false → Below n xs
     → length (keep (λ (y : ℕ). among y xs) (below n)) ≡ length xs

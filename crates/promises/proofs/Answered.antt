@@ -5,6 +5,7 @@ use mathlib.Core.Path.{_≡_, refl, sym, ap, _∙_}
 use mathlib.Core.Logic.{_↔_}
 use mathlib.Core.List.{List}
 use native.Mathlib.Omega.{arith}
+use lib.ListN.{length, getD}
 use lib.Dec.{eqb}
 use borrow.Author.Tests.{eqb-true}
 use Rattle.mps.specs.Refusals.{innerNumber}
@@ -12,8 +13,11 @@ use Rattle.mps.specs.Pointer.{isDefault}
 use Rattle.mps.specs.Judge.{told}
 use Rattle.mps.specs.Addresses.{seenBy}
 use Rattle.mps.specs.Answers.{numberOf, judgedNumbers, judgedOf, examinedNumbers, examinedOf, heldNumbers, heldOf, partedNumbers, partedOf, seenNumbers, seenOf, editedNumbers, editedOf}
+use Rattle.mps.specs.Answers.{renumberedNumbers, renumberedOf}
 use Rattle.mps.specs.declared.Sections.{Sections}
 use Rattle.mps.specs.declared.Parted.the-variants.{Parts}
+use Rattle.mps.specs.declared.Renumbered.{Renumbered}
+use Rattle.mps.specs.declared.Renumbered.the-variants.{Given}
 use Rattle.mps.specs.declared.Seen.{Seen}
 use Rattle.mps.specs.declared.Seen.the-variants.{No, Yes, Undeclared, Refused}
 use Rattle.laws.proofs.Tests.{whether}
@@ -57,3 +61,20 @@ seen-of t bus kind address (suc n) = refl
 pub edited-of : (inner n : ℕ) → numberOf (editedNumbers (editedOf n inner)) ≡ n
 edited-of inner zero = refl
 edited-of inner (suc n) = whether (eqb (suc n) innerNumber) (λ e. rw e (sym (eqb-true (suc n) innerNumber e))) (λ e. rw e)
+
+-- The new numbers: a number, a count and the bits that are set; and back, what is given is the answer's.
+pub renumbered-of : (count used n : ℕ) → numberOf (renumberedNumbers (renumberedOf n count used)) ≡ n
+renumbered-of count used zero = refl
+renumbered-of count used (suc n) = refl
+
+valueAt : ℕ → Renumbered → ℕ
+valueAt i r = getD (renumberedNumbers r) i 0
+
+values : Renumbered → ℕ
+values r = length (renumberedNumbers r)
+
+pub renumbered-given : (m count used : ℕ) {n bits : ℕ} → Given n bits ≡ renumberedOf m count used
+    → (m ≡ 0) × (n ≡ count) × (bits ≡ used)
+unfolding valueAt values
+renumbered-given zero count used e = (refl, ap (valueAt 1) e, ap (valueAt 2) e)
+renumbered-given (suc m) count used e = absurd (omega (arith, ap values e))

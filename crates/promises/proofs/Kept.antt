@@ -8,18 +8,19 @@ use lib.ListN.{length, drop, replicate, length-replicate}
 use lib.Dec.{eqb}
 use borrow.Author.Tests.{ne-eqb, eqb-true, eqb-false}
 use Rattle.mps.specs.Words.{put}
-use Rattle.mps.specs.Answers.{numberOf, lentNumbers}
+use Rattle.mps.specs.Answers.{numberOf, lentNumbers, renumberedNumbers}
 use Rattle.mps.specs.Rooms.{roomRefusal, fitted, fitLeft}
 use Rattle.mps.specs.Judge.{tableRefusal}
 use Rattle.mps.specs.Listing.{listing, listRefusal, listed, listLeft, programOutput, printed, printLeft}
 use Rattle.mps.specs.Writing.{Parts, image, imageSize, earlyRefusal, writeRefusal, written, finished, writeLeft}
 use Rattle.mps.specs.Routes.{Question, routesOf, routeRefusal, routed, routesLeft}
 use Rattle.mps.specs.Slots.{Slot, slotRoutesOf, slotRefusal, slotRouted, slotRoutesLeft, slotsOf, slotsRefusal, slotsListed, slotsLeft}
+use Rattle.mps.specs.Renumber.{newNumbersOf, renumberRefusal, renumbered, renumberLeft}
 use Rattle.mps.specs.declared.Lent.the-variants.{Count}
 use Rattle.laws.proofs.Tests.{whether}
 use Rattle.laws.proofs.Refusals.{first-none}
 use Rattle.laws.proofs.Lent.{left-kept, left-put, lent-kept, count-given, lent-shown}
-use Rattle.promises.proofs.Numbered.{write-number, write-judged}
+use Rattle.promises.proofs.Numbered.{write-number, write-judged, renumber-number}
 
 -- ---- "A refusal writes nothing into lent memory"
 
@@ -43,6 +44,10 @@ slot-kept s t room = lent-kept (slotRefusal s t room) _ (slotRoutesOf s t) room
 pub slots-kept : (t room : List ℕ) → (numberOf (lentNumbers (slotsListed t room)) ≡ 0 → ⊥) → slotsLeft t room ≡ room
 unfolding slotsListed slotsLeft
 slots-kept t room = lent-kept (slotsRefusal t room) _ (slotsOf t) room
+
+pub renumber-kept : (t room : List ℕ) → (numberOf (renumberedNumbers (renumbered t room)) ≡ 0 → ⊥) → renumberLeft t room ≡ room
+unfolding renumberLeft
+renumber-kept t room z = left-kept (renumberRefusal t room) (newNumbersOf t) room (λ e. z (renumber-number t room ∙ e))
 
 -- Of an edit that is Edits' refused-unchanged: whatever is answered but Done.
 

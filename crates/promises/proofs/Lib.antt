@@ -9,6 +9,7 @@ pub mod Slots
 pub mod SlotRoutes
 pub mod SlotCodes
 pub mod SlotList
+pub mod Renumber
 pub mod Addresses
 pub mod Headers
 pub mod Again

@@ -12,10 +12,10 @@ use lib.Dec.{eqb, ltb}
 use borrow.Author.Tests.{eq-eqb, eqb-true, eqb-false, le-ltb}
 use Rattle.mps.specs.Words.{text, same, among, any, each, only, first}
 use Rattle.mps.specs.Refusals.{Rule, _when_, refusal, roomNumber}
-use Rattle.mps.specs.Answers.{numberOf, judgedNumbers, examinedNumbers, heldNumbers, lentNumbers, partedNumbers, seenNumbers, editedNumbers}
-use Rattle.mps.specs.Answers.{judgedOf, examinedOf, heldOf, lentOf, partedOf, seenOf, editedOf}
+use Rattle.mps.specs.Answers.{numberOf, judgedNumbers, examinedNumbers, heldNumbers, lentNumbers, partedNumbers, seenNumbers, editedNumbers, renumberedNumbers}
+use Rattle.mps.specs.Answers.{judgedOf, examinedOf, heldOf, lentOf, partedOf, seenOf, editedOf, renumberedOf}
 use Rattle.mps.specs.Rooms.{tooSmall, roomRules, lentRefusal, roomRefusal, fitted}
-use Rattle.mps.specs.Layout.{knownRevision, partMost, headerSize, baseLength, extendedEnd, baseBytes}
+use Rattle.mps.specs.Layout.{knownRevision, partMost, headerSize, baseLength, extendedEnd, baseBytes, baseEntries}
 use Rattle.mps.specs.Sums.{sum256}
 use Rattle.mps.specs.Numbers.{bytes}
 use Rattle.mps.specs.Pointer.{isDefault, tableIn}
@@ -26,6 +26,7 @@ use Rattle.mps.specs.Listing.{listing, listRefusal, listed, programOutput, prin
 use Rattle.mps.specs.Writing.{Parts, baseSize, header, baseSumOf, extendedSumOf, image, imageSize, partRules, earlyRefusal, writeRefusal, written, parted}
 use Rattle.mps.specs.Routes.{Question, pairSize, routesOf, lineRules, routeRefusal, routed}
 use Rattle.mps.specs.Slots.{Slot, slotRoutesOf, slotRules, slotRefusal, slotRouted, slotSize, slotsOf, slotsRefusal, slotsListed}
+use Rattle.mps.specs.Renumber.{newNumbersOf, usedNumbers, bitsSet, renumberRules, renumberRefusal, renumbered}
 use Rattle.mps.specs.Addresses.{seenBy, addressRules, seen}
 use Rattle.mps.specs.declared.Parted.the-variants.{Parts as Parted·Parts}
 use Rattle.mps.specs.Edits.{Edit, editRules, editRefusal, edited, innerRefusal}
@@ -36,9 +37,9 @@ use Rattle.laws.proofs.Lent.{lent-19, lent-before, lent-of}
 use Rattle.sums.proofs.Laws.{stored-append}
 use Rattle.writer.proofs.Laws.{length-image}
 use Rattle.writer.proofs.Most.{early-fits}
-use Rattle.promises.specs.Numbered.{OneOf, tableNumbers, pointerNumbers, editNumbers, addressNumbers, routeNumbers, slotNumbers, slotsNumbers, readNumbers, listNumbers, printNumbers, laterNumbers, writeNumbers}
+use Rattle.promises.specs.Numbered.{OneOf, tableNumbers, pointerNumbers, editNumbers, addressNumbers, routeNumbers, slotNumbers, slotsNumbers, renumberNumbers, readNumbers, listNumbers, printNumbers, laterNumbers, writeNumbers}
 use Rattle.promises.proofs.Given.{Exactly}
-use Rattle.promises.proofs.Answered.{judged-of, examined-of, parted-of, told-of, seen-of, edited-of}
+use Rattle.promises.proofs.Answered.{judged-of, examined-of, parted-of, told-of, seen-of, edited-of, renumbered-of}
 use Rattle.promises.proofs.Headers.{header-sum, image-front, image-base-length}
 
 -- ---- The number of the first row that is so is a row's number, or 0
@@ -135,6 +136,16 @@ module _ (t : List ℕ) where
     pub slots-numbered : OneOf (λ n. lentOf n (length (slotsOf t) / slotSize)) (slotsRefusal t room) slotsNumbers (slotsListed t room)
     unfolding slotsListed slotsRefusal lentRefusal roomRules tableRules each
     slots-numbered = one-of (slotsRefusal t room) refl (refusal-among (roomRules (tableRules t) (tooSmall (length (slotsOf t)) room)))
+
+    pub renumber-number : numberOf (renumberedNumbers (renumbered t room)) ≡ renumberRefusal t room
+    unfolding renumbered
+    renumber-number = renumbered-of _ _ (renumberRefusal t room)
+
+    pub renumber-numbered :
+        OneOf (λ n. renumberedOf n (length (newNumbersOf t)) (bitsSet (usedNumbers (baseEntries t))))
+        (renumberRefusal t room) renumberNumbers (renumbered t room)
+    unfolding renumbered renumberRefusal renumberRules roomRules tableRules each
+    renumber-numbered = one-of (renumberRefusal t room) refl (refusal-among (renumberRules t room))
 
   -- "A refusal returns its number alone, except 23": the inner number goes with it (Edits, inner-number).
   module _ (e : Edit) where

@@ -1,6 +1,6 @@
 -- Of any query for pairs, whichever interrupt entries it asks about and whatever targets: a pair stands in the answer exactly
--- when two entries of the table declare it, the pairs stand in the order of the table, and none has the ID 255. Routes and
--- Slots are its instances. Assumes nothing.
+-- when two entries of the table declare it, the pairs stand in the order of the table, each has an ID of the table, and none
+-- has 255. Routes and Slots are its instances. Assumes nothing.
 use Prim.Native.Nat.{ℕ, zero, suc, _+_, _-_, _*_, _/_, _<_, _≤_}
 use mathlib.Core.Path.{_≡_, refl, sym, ap, _∙_}
 use mathlib.Core.Bool.{Bool, true, false, _&&_, false≢true}
@@ -226,7 +226,7 @@ module _ (asked : Entry → Bool) (targets : ℕ) (es : List Entry) (given : ℕ
             },
       )
 
--- ---- "255 names all": where no enabled target has that ID, it stands in no pair
+-- ---- The ID of a pair is that of an enabled target, as the table states it
 
 -- What is enabled and of a type has its ID among those.
 enabled-among :
@@ -243,13 +243,17 @@ enabled-among n (e ∷ es) (suc k) h t =
     (λ a. whether (enabled e) (λ b. rw (a, b) (among-rest _ (idOf e) _ r)) (λ b. rw (a, b) r))
     (λ a. rw a r)
 
-pub no-everyone : (asked : Entry → Bool) (targets : ℕ) (es : List Entry) → among everyone (enabledIds targets es) ≡ false
-    → (id into : ℕ) → PairDeclared asked targets es id into → id ≡ everyone → ⊥
+pub pair-own : (asked : Entry → Bool) (targets : ℕ) (es : List Entry) (id into : ℕ) → PairDeclared asked targets es id into
+    → among id (enabledIds targets es) ≡ true
 unfolding declares target
-no-everyone asked targets es own id into r h =
+pair-own asked targets es id into r =
     let e = getD es (r .line) [] in
     let a = getD es (r .apic) [] in
     let both = and-parts (asked e) ((ofType targets a && enabled a) && names e a) (r .route) in
     let is = and-parts (ofType targets a && enabled a) (names e a) (both .1) in
-    let m = enabled-among targets es (r .apic) (r .apic-there) (is .0) in
-    false≢true (sym own ∙ rw (r .named, h) at m)
+    rw (r .named) at (enabled-among targets es (r .apic) (r .apic-there) (is .0))
+
+-- "255 names all": where no enabled target has that ID, it stands in no pair.
+pub no-everyone : (asked : Entry → Bool) (targets : ℕ) (es : List Entry) → among everyone (enabledIds targets es) ≡ false
+    → (id into : ℕ) → PairDeclared asked targets es id into → id ≡ everyone → ⊥
+no-everyone asked targets es own id into r h = false≢true (sym own ∙ rw h at (pair-own asked targets es id into r))

@@ -1,16 +1,16 @@
 -- Demand 2: "The listing, the routes and the addresses seen by a bus are those the table declares", of the routes: a pair is
 -- in the answer exactly when two entries of the table declare it, and the pairs stand in the order of the table. The numbers
 -- of a route query, "given exactly when". Assumes nothing.
-use Prim.Native.Nat.{ℕ, _*_, _<_}
+use Prim.Native.Nat.{ℕ, _+_, _*_, _<_}
 use mathlib.Core.Path.{_≡_, refl}
-use mathlib.Core.Bool.{false}
+use mathlib.Core.Bool.{true, false}
 use mathlib.Core.Logic.{_↔_}
 use mathlib.Core.List.{List, [], _∷_, _++_}
 use native.Mathlib.Omega.{arith}
 use lib.ListN.{length, drop}
-use Rattle.mps.specs.Words.{among, any, each}
+use Rattle.mps.specs.Words.{byte, among, any, each}
 use Rattle.mps.specs.Layout.{Entry, processorType, ioApicType, everyone, baseEntries}
-use Rattle.mps.specs.Rules.{ioSide, localSide}
+use Rattle.mps.specs.Rules.{ioSide, localSide, enabledIds}
 use Rattle.mps.specs.Judge.{tableRules, tableRefusal}
 use Rattle.mps.specs.Refusals.{_when_}
 use Rattle.mps.specs.Rooms.{tooSmall, roomRules, lentRefusal}
@@ -21,7 +21,7 @@ use Rattle.laws.proofs.Lent.{lent-19}
 use Rattle.accepted.proofs.Obeyed.{obeyed}
 use Rattle.promises.specs.Declared.{declared, Route, Stands}
 use Rattle.promises.proofs.Given.{Exactly}
-use Rattle.promises.proofs.Pairs.{pairs-declared, pairs-count, pairs-in-order, pairs-exactly, no-everyone}
+use Rattle.promises.proofs.Pairs.{pairs-declared, pairs-count, pairs-in-order, pairs-exactly, pair-own, no-everyone}
 
 pub routes-declared : (q : Question) (es : List Entry) → routes q es ≡ declared q es
 unfolding routes
@@ -48,6 +48,15 @@ module _ (q : Question) (t room : List ℕ) {n : ℕ} (r : routed q t room ≡ C
   routes-exactly =
       rw (routes-declared q (baseEntries t))
       (pairs-exactly (matches q) (q .side .targets) (baseEntries t) (routeRefusal q t room) room (rw (routes-declared q (baseEntries t)) at r))
+
+  -- "Routes keep naming the table's numbers" (document 02, ask 2): at each place stands the ID of an enabled one, as the table
+  -- states it.
+  pub routes-own-numbers : (i : ℕ) → i < n
+      → among (byte (routesLeft q t room) (i * pairSize)) (enabledIds (q .side .targets) (baseEntries t)) ≡ true
+  routes-own-numbers i h =
+      pair-own (matches q) (q .side .targets) (baseEntries t) _ _
+      (routes-exactly (byte (routesLeft q t room) (i * pairSize)) (byte (routesLeft q t room) (i * pairSize + 1)) .0
+      (record { place = i; there = h; first = refl; second = refl }))
 
 -- ---- "255 names all": no enabled APIC of an accepted table has that ID, so it stands in no pair
 

@@ -1,7 +1,7 @@
 -- Document 02, ask 1, "a query by bus, device 0 to 31 and pin 0 to 3 that gives the route pairs of interrupt type INT, bit 7
 -- ignored": which pairs it gives, and its numbers, "given exactly when". How they stand to those of a route query is in
 -- SlotRoutes. Assumes nothing.
-use Prim.Native.Nat.{ℕ, _*_, _<_}
+use Prim.Native.Nat.{ℕ, _+_, _*_, _<_}
 use mathlib.Core.Path.{_≡_, refl, sym, _∙_}
 use mathlib.Core.Bool.{true, false, not, _||_}
 use mathlib.Core.Logic.{_↔_}
@@ -10,9 +10,9 @@ use native.Mathlib.Omega.{arith}
 use lib.ListN.{length, drop}
 use lib.Dec.{leb}
 use borrow.Author.Tests.{leb-false, not-false}
-use Rattle.mps.specs.Words.{among, any, each}
+use Rattle.mps.specs.Words.{byte, among, any, each}
 use Rattle.mps.specs.Layout.{Entry, ioApicType, everyone, pins, devices, baseEntries}
-use Rattle.mps.specs.Rules.{isListed}
+use Rattle.mps.specs.Rules.{enabledIds, isListed}
 use Rattle.mps.specs.Judge.{tableRules, tableRefusal}
 use Rattle.mps.specs.Refusals.{_when_}
 use Rattle.mps.specs.Rooms.{tooSmall, roomRules, lentRefusal}
@@ -27,7 +27,7 @@ use Rattle.accepted.proofs.Obeyed.{obeyed}
 use Rattle.promises.specs.Declared.{slotDeclared, SlotRoute, Stands}
 use Rattle.promises.specs.Slots.{SlotAnswered}
 use Rattle.promises.proofs.Given.{Exactly, given-none}
-use Rattle.promises.proofs.Pairs.{pairs-declared, pairs-count, pairs-in-order, pairs-exactly, no-everyone}
+use Rattle.promises.proofs.Pairs.{pairs-declared, pairs-count, pairs-in-order, pairs-exactly, pair-own, no-everyone}
 
 -- ---- The pairs
 
@@ -56,6 +56,14 @@ module _ (s : Slot) (t room : List ℕ) {n : ℕ} (r : slotRouted s t room ≡ C
   slot-routes-exactly =
       rw (slot-routes-declared s (baseEntries t))
       (pairs-exactly (wiredFrom s) ioApicType (baseEntries t) (slotRefusal s t room) room (rw (slot-routes-declared s (baseEntries t)) at r))
+
+  -- It names the table's numbers, as the route queries do.
+  pub slot-own-numbers : (i : ℕ) → i < n
+      → among (byte (slotRoutesLeft s t room) (i * pairSize)) (enabledIds ioApicType (baseEntries t)) ≡ true
+  slot-own-numbers i h =
+      pair-own (wiredFrom s) ioApicType (baseEntries t) _ _
+      (slot-routes-exactly (byte (slotRoutesLeft s t room) (i * pairSize)) (byte (slotRoutesLeft s t room) (i * pairSize + 1)) .0
+      (record { place = i; there = h; first = refl; second = refl }))
 
 -- "255 names all": the ID is the I/O APIC's own.
 pub slot-never-255 :

@@ -38,6 +38,10 @@ slotNumbers = tableNumbers ++ (24 ∷ 25 ∷ 19 ∷ [])
 abbrev pub slotsNumbers : List ℕ
 slotsNumbers = tableNumbers ++ (19 ∷ [])
 
+-- The new numbers of I/O APICs: "26, .. last" (document 02, ask 2).
+abbrev pub renumberNumbers : List ℕ
+renumberNumbers = tableNumbers ++ (19 ∷ 26 ∷ [])
+
 -- The dump reader: 1 to 18.
 abbrev pub readNumbers : List ℕ
 readNumbers = pointerNumbers ++ tableNumbers
