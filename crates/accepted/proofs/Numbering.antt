@@ -1,6 +1,6 @@
 -- The numbers of an accepted table's enabled APICs: those that are held are apart and below 255, and whether one that needs a new
 -- number finds none is a matter of how many there are. Assumes nothing.
-use Prim.Native.Nat.{ℕ, _+_}
+use Prim.Native.Nat.{ℕ, _+_, _≤_}
 use mathlib.Core.Path.{_≡_, sym, _∙_}
 use mathlib.Core.Bool.{Bool, true, false, not, false≢true}
 use mathlib.Core.List.{List}
@@ -12,13 +12,13 @@ use Rattle.mps.specs.Words.{among, twice, keep, each}
 use Rattle.mps.specs.Layout.{Entry, ofType, processorType, ioApicType, everyone, enabled, idOf, baseEntries}
 use Rattle.mps.specs.Rules.{enabledOf, enabledIds}
 use Rattle.mps.specs.Judge.{tableRefusal}
-use Rattle.mps.specs.Renumber.{shares, keptIds, free, heldIds, noneFree}
+use Rattle.mps.specs.Renumber.{shares, keptIds, free, heldIds, newNumbers, noneFree, newNumbersOf}
 use Rattle.laws.proofs.Tests.{either, same-test}
 use Rattle.laws.proofs.Lists.{length-each, keep-each}
 use Rattle.laws.proofs.Small.{Bytes, below-each, small-keep, small-base}
 use Rattle.laws.proofs.Pigeons.{among-byte}
-use Rattle.laws.proofs.Counting.{Below, keep-both, among-append, among-kept, apart-kept, apart-append}
-use Rattle.laws.proofs.Renumber.{free-count, finds-count}
+use Rattle.laws.proofs.Counting.{Below, keep-both, among-append, among-kept, apart-kept, apart-append, apart-below}
+use Rattle.laws.proofs.Renumber.{free-count, length-numbers, finds-count}
 use Rattle.accepted.proofs.Obeyed.{obeyed}
 
 -- ---- The IDs of the enabled ones
@@ -81,6 +81,14 @@ module _ (t : List ℕ) (a : tableRefusal t ≡ 0) where
     held-below z h =
         let es = baseEntries t in
         either _ _ (sym (among-append z (enabledIds processorType es) (keptIds es)) ∙ h) (processors-below z) (kept-below z)
+
+    -- There is a byte for each enabled I/O APIC, and no more than 255.
+    pub new-most : length (newNumbersOf t) ≤ everyone
+    unfolding newNumbersOf newNumbers enabledIds
+    new-most =
+        let apics = enabledOf ioApicType (baseEntries t) in
+        let most = apart-below everyone (each idOf apics) (obeyed t a .ioapics) ioapics-below in
+        omega (arith, length-numbers (shares (baseEntries t)) (heldIds (baseEntries t)) apics, most, length-each idOf apics)
 
     -- One that needs a number finds none free exactly when the enabled processors and the enabled I/O APICs are more than the
     -- numbers 0 to 254.

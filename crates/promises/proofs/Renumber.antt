@@ -25,11 +25,10 @@ use Rattle.laws.proofs.Lists.{any-append, at-among, length-each, keep-keep, kee
 use Rattle.laws.proofs.Refusals.{so, refusal-none, given-before, given-exactly}
 use Rattle.laws.proofs.Lent.{left-put}
 use Rattle.laws.proofs.Small.{Bytes}
-use Rattle.laws.proofs.Counting.{Below, among-append, apart-parts, apart-places, apart-count, apart-below}
+use Rattle.laws.proofs.Counting.{Below, among-append, apart-parts, apart-places, apart-count}
 use Rattle.laws.proofs.Renumber.{keptOf, length-numbers, numbers-all-own, numbers-keep, numbers-below, numbers-apart, numbers-lowest}
 use Rattle.laws.proofs.Renumber.{lowest-below, lowest-out, lowest-under}
-use Rattle.accepted.proofs.Obeyed.{obeyed}
-use Rattle.accepted.proofs.Numbering.{processors-below, ioapics-below, kept-below, held-apart, none-free}
+use Rattle.accepted.proofs.Numbering.{processors-below, kept-below, held-apart, new-most, none-free}
 use Rattle.promises.specs.Renumber.{apicAt, held, LowestFree}
 use Rattle.promises.proofs.Answered.{renumbered-given}
 use Rattle.promises.proofs.Given.{Exactly, given-none}
@@ -127,18 +126,11 @@ module _ (t room : List ℕ) where
       )
 
   -- At most 255 bytes are needed: a room of 255 is never too small.
-  pub new-most : Bytes t → tableRefusal t ≡ 0 → length (newNumbersOf t) ≤ everyone
-  unfolding enabledIds
-  new-most b a =
-      let apics = enabledOf ioApicType (baseEntries t) in
-      let most = apart-below everyone (each idOf apics) (obeyed t a .ioapics) (ioapics-below t a b) in
-      omega (arith, new-length, most, length-each idOf apics)
-
   pub renumber-room : Bytes t → everyone ≤ length room → renumberRefusal t room ≡ 19 → ⊥
   unfolding tooSmall
   renumber-room b h e =
       let g = renumber-19 .0 e in
-      let most = new-most b (given-none t .1 (g .0)) in
+      let most = new-most t (given-none t .1 (g .0)) b in
       let small = ltb-true (length room) (length (newNumbersOf t)) (g .1) in
       omega arith
 
