@@ -33,6 +33,11 @@ use Rattle.promises.specs.Renumber.{apicAt, held, LowestFree}
 use Rattle.promises.proofs.Answered.{renumbered-given}
 use Rattle.promises.proofs.Given.{Exactly, given-none}
 
+-- "The answer has a byte for each enabled one."
+pub new-length : (t : List ℕ) → length (newNumbersOf t) ≡ length (enabledOf ioApicType (baseEntries t))
+unfolding newNumbersOf newNumbers
+new-length t = length-numbers _ _ _
+
 -- ---- The call's numbers: "Refusals: 26, exactly when one that needs a number finds none free, last."
 
 module _ (t room : List ℕ) where
@@ -63,11 +68,6 @@ module _ (t room : List ℕ) where
       given-exactly (roomRules (tableRules t) (tooSmall (length (newNumbersOf t)) room)) 26 (noneFree (baseEntries t)) []
       (omega arith) refl refl
 
-  -- "The answer has a byte for each enabled one."
-  pub new-length : length (newNumbersOf t) ≡ length (enabledOf ioApicType (baseEntries t))
-  unfolding newNumbersOf newNumbers
-  new-length = length-numbers _ _ _
-
   -- The rows before 26: the table is accepted, and the room has a byte for each enabled I/O APIC.
   passed : (any so (roomRules (tableRules t) (tooSmall (length (newNumbersOf t)) room)) ≡ false)
       ↔ ((tableRefusal t ≡ 0) × (length (enabledOf ioApicType (baseEntries t)) ≤ length room))
@@ -78,8 +78,8 @@ module _ (t room : List ℕ) where
         λ e.
             let p = or-parts (any so (tableRules t)) (small || false) (sym both ∙ e) in
             let q = or-parts small false (p .1) in
-            (given-none t .1 (p .0), omega (arith, ltb-false (length room) (length (newNumbersOf t)) (q .0), new-length)),
-        λ h. both ∙ rw (given-none t .0 (h .0), le-ltb (length room) (length (newNumbersOf t)) (omega (arith, h .1, new-length))),
+            (given-none t .1 (p .0), omega (arith, ltb-false (length room) (length (newNumbersOf t)) (q .0), new-length t)),
+        λ h. both ∙ rw (given-none t .0 (h .0), le-ltb (length room) (length (newNumbersOf t)) (omega (arith, h .1, new-length t))),
       )
 
   -- So an answer is given exactly when the table is accepted, the room has a byte for each enabled I/O APIC, and each that needs
@@ -125,7 +125,7 @@ module _ (t room : List ℕ) where
         λ h. renumber-26-when .1 (h .0, h .1, count (h .0) ∙ lt-ltb everyone all (h .2)),
       )
 
-  -- At most 255 bytes are needed: a room of 255 is never too small.
+  -- A room of 255 bytes is never too small.
   pub renumber-room : Bytes t → everyone ≤ length room → renumberRefusal t room ≡ 19 → ⊥
   unfolding tooSmall
   renumber-room b h e =
@@ -195,7 +195,7 @@ module _ (t room : List ℕ) {n bits : ℕ} (r : renumbered t room ≡ Given n b
 
   -- "The answer has a byte for each enabled one", from the room's first byte on; what lies past them stays.
   pub new-count : n ≡ length (enabledOf ioApicType (baseEntries t))
-  new-count = told .1 ∙ new-length t room
+  new-count = told .1 ∙ new-length t
 
   pub new-in-order : renumberLeft t room ≡ newNumbersOf t ++ drop n room
   unfolding renumberLeft
@@ -292,4 +292,4 @@ module _ (t room : List ℕ) {n bits : ℕ} (r : renumbered t room ≡ Given n b
       (λ c. omega (arith, processors-below t accepted b z c))
       (λ c. omega (arith, used-below b z c)) in
       let set = apart-count 256 all used-apart inside in
-      omega (arith, told .2, set, length-append ids (newNumbers es), length-each idOf cpus, new-length t room)
+      omega (arith, told .2, set, length-append ids (newNumbers es), length-each idOf cpus, new-length t)
