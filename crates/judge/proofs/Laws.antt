@@ -2,30 +2,31 @@
 use Prim.Native.Nat.{ℕ, zero, suc, _-_, _/_}
 use mathlib.Core.Path.{_≡_, refl, sym, ap, _∙_}
 use mathlib.Core.Bool.{Bool, true, false, cond, true≢false}
-use mathlib.Core.List.{List}
+use mathlib.Core.List.{List, _++_}
 use native.Mathlib.Omega.{arith}
 use lib.ListN.{length}
-use Rattle.mps.specs.Words.{head, among, keep, each, part}
-use Rattle.mps.specs.Refusals.{refusal}
+use Rattle.mps.specs.Words.{head, among, keep, each, first, part}
+use Rattle.mps.specs.Refusals.{Rule, refusal}
 use Rattle.mps.specs.Answers.{examinedOf, examinedNumbers}
-use Rattle.mps.specs.Layout.{entrySize, busType, idOf, baseEntries, extendedEntries}
+use Rattle.mps.specs.Layout.{headerSize, processorSize, entrySize, processorType, busType, ioApicType, idOf, baseEntries, extendedEntries}
 use Rattle.mps.specs.Table.{wrongExtendedPart, walkFrom, wrongExtended, extendedFrom}
-use Rattle.mps.specs.Rules.{isListed, idsOf}
+use Rattle.mps.specs.Rules.{isListed, idsOf, enabledOf, enabledIds}
 use Rattle.mps.specs.Sections.{rows, sections}
-use Rattle.mps.specs.Judge.{tableRefusal, judged, examined}
+use Rattle.mps.specs.Judge.{tableRules, tableRefusal, judged, examined}
 use Rattle.mps.specs.Slots.{isPci, pciBuses, onPci}
 use Rattle.mps.specs.declared.Sections.{Sections}
 use Rattle.mps.specs.declared.Judged.the-variants.{Accepted, Refused as Judged·Refused}
 use Rattle.mps.specs.declared.Examined.{Examined}
 use Rattle.mps.specs.declared.Examined.the-variants.{Accepted as Examined·Accepted, Refused}
 use Rattle.laws.proofs.Tests.{or-parts}
-use Rattle.laws.proofs.Refusals.{first-none}
+use Rattle.laws.proofs.Refusals.{number, first-none, refusal-append}
 use Rattle.laws.proofs.Lists.{length-each}
 use Rattle.laws.proofs.Parts.{length-part}
 use Rattle.laws.proofs.Rows.{rows-count}
 use Rattle.laws.proofs.Small.{Bytes}
 use Rattle.header.specs.Header.{headerRefusal}
 use Rattle.header.proofs.Laws.{header-passed, extended-fits}
+use Rattle.apics.specs.Enabled.{enabledIn}
 use Rattle.sections.specs.Base.{baseFault}
 use Rattle.judge.specs.Placed.{Placed}
 use Rattle.judge.specs.Stages.{walkNumber, from14}
@@ -110,6 +111,32 @@ accepted-placed t bytes e =
 -- and so are those that the examiner answers.
 pub accepted-places : (t : List ℕ) {r : Examined} {p : Sections} → Bytes t → r ≡ examined t → r ≡ Examined·Accepted p → Placed t p
 accepted-places t bytes e q = rw (accepted-sections t e q) (accepted-placed t bytes (sym (accepted-number t e q)))
+
+-- Both of an answer.
+pub examined-accepted : (t : List ℕ) → Bytes t → {r : Examined} {p : Sections} → r ≡ examined t → r ≡ Examined·Accepted p
+    → (tableRefusal t ≡ 0) × Placed t p
+examined-accepted t bytes e q = (sym (accepted-number t e q), accepted-places t bytes e q)
+
+-- ---- Rows behind those of the table
+
+pub table-some : (t : List ℕ) → among 0 (each number (tableRules t)) ≡ false
+unfolding tableRules among each
+table-some t = refl
+
+pub behind-table : (t : List ℕ) (own : List Rule) → refusal (tableRules t ++ own) ≡ first (tableRefusal t) (refusal own)
+unfolding tableRefusal
+behind-table t own = refusal-append (tableRules t) own (table-some t)
+
+-- ---- The enabled APICs
+
+module _ (t : List ℕ) (p : Sections) (places : Placed t p) where
+  pub placed-processors : enabledIds processorType (baseEntries t) ≡ enabledIn processorSize (part headerSize (p .buses) t)
+  unfolding enabledIds enabledOf enabledIn
+  placed-processors = rw (places .processors)
+
+  pub placed-ioapics : enabledIds ioApicType (baseEntries t) ≡ enabledIn entrySize (part (p .ioapics) (p .interrupts) t)
+  unfolding enabledIds enabledOf enabledIn
+  placed-ioapics = rw (places .ioapics)
 
 -- ---- The listed buses
 

@@ -85,11 +85,11 @@ lowest-is words xs has out =
 -- ---- The numbers
 
 module _ (cpus used : List ℕ) (id : ℕ) where
-  number-new : holds cpus id ≡ true → numberIn cpus used id ≡ lowestOut used
+  pub number-new : holds cpus id ≡ true → numberIn cpus used id ≡ lowestOut used
   unfolding numberIn
   number-new e = rw e
 
-  number-own : holds cpus id ≡ false → numberIn cpus used id ≡ id
+  pub number-own : holds cpus id ≡ false → numberIn cpus used id ≡ id
   unfolding numberIn
   number-own e = rw e
 

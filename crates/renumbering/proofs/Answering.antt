@@ -1,0 +1,229 @@
+-- The ways out: what the code has found there, and the answer. Assumes nothing.
+use Prim.Native.Nat.{ℕ, zero, suc, _+_, _≤_, _<_}
+use mathlib.Core.Path.{_≡_, refl, sym, ap, _∙_}
+use mathlib.Core.Bool.{Bool, true, false, _||_, or-true}
+use mathlib.Core.List.{List, [], _∷_, _++_}
+use native.Mathlib.Omega.{arith}
+use lib.Dec.{ltb}
+use lib.ListN.{length, replicate}
+use lib.Seq.{sets}
+use borrow.Author.Tests.{lt-ltb, le-ltb}
+use Rattle.mps.specs.Words.{among, each, keep, first, part, below}
+use Rattle.mps.specs.Refusals.{_when_, refusal, roomNumber}
+use Rattle.mps.specs.Layout.{Entry, ofType, headerSize, processorSize, entrySize, processorType, ioApicType, idOf, enabled, everyone, baseEntries}
+use Rattle.mps.specs.Rules.{enabledOf, enabledIds}
+use Rattle.mps.specs.Judge.{tableRules, tableRefusal, examined}
+use Rattle.mps.specs.Answers.{renumberedOf}
+use Rattle.mps.specs.Rooms.{tooSmall, roomRules}
+use Rattle.mps.specs.Renumber.{shares, keptIds, heldIds, newNumbers, newNumbersOf, noneFree, usedNumbers, bitsSet, renumberRules, renumberRefusal, renumbered, renumberLeft}
+use Rattle.mps.specs.declared.Sections.{Sections}
+use Rattle.mps.specs.declared.Examined.{Examined}
+use Rattle.mps.specs.declared.Examined.the-variants.{Refused as Examined·Refused}
+use Rattle.mps.specs.declared.Renumbered.{Renumbered}
+use Rattle.mps.specs.declared.Renumbered.the-variants.{Given, Refused}
+use Rattle.laws.proofs.Lists.{length-each, Within}
+use Rattle.laws.proofs.Tests.{whether}
+use Rattle.laws.proofs.Refusals.{number, first-some, refusal-append}
+use Rattle.laws.proofs.Lent.{left-kept, left-put}
+use Rattle.laws.proofs.Stores.{sets-at-start}
+use Rattle.laws.proofs.Small.{Bytes, Small, small-base, small-keep}
+use Rattle.laws.proofs.Counting.{Below, among-append, apart-below}
+use Rattle.laws.proofs.Renumber.{keptOf, length-numbers, numbers-below}
+use Rattle.apics.specs.Enabled.{enabledIn}
+use Rattle.sets.specs.Sets.{holds, putAll, bitsOf, members}
+use Rattle.sets.proofs.Laws.{members-by}
+use Rattle.accepted.proofs.Obeyed.{obeyed}
+use Rattle.accepted.proofs.Numbering.{processors-below, ioapics-below, kept-below, held-below, none-free}
+use Rattle.judge.specs.Placed.{Placed}
+use Rattle.judge.proofs.Laws.{refused-number, refused-some, behind-table, placed-processors, placed-ioapics}
+use Rattle.renumbering.specs.Giving.{outside, numbersIn}
+use Rattle.renumbering.proofs.Laws.{Has, has-none, has-all, outside-none, outside-kept, numbers-are, kept-given}
+
+-- ---- The number, and the answer
+
+-- What answers it, and what is left in the room.
+abbrev pub Answers : List ℕ → List ℕ → Renumbered → List ℕ → Type 0
+Answers t room r u = (r ≡ renumbered t room) × (u ≡ renumberLeft t room)
+
+refused-of : (n count used : ℕ) → (n ≡ 0 → ⊥) → Refused n ≡ renumberedOf n count used
+refused-of zero count used z = absurd (z refl)
+refused-of (suc n) count used z = refl
+
+module _ (t room : List ℕ) where
+  abbrev small : Bool
+  small = tooSmall (length (newNumbersOf t)) room
+
+  rows-some : among 0 (each number (tableRules t ++ (roomNumber when small ∷ []))) ≡ false
+  unfolding tableRules among each
+  rows-some = refl
+
+  -- The table's rows, 19, then 26.
+  is-number : renumberRefusal t room ≡ first (first (tableRefusal t) (refusal (roomNumber when small ∷ []))) (refusal (26 when noneFree (baseEntries t) ∷ []))
+  unfolding renumberRefusal renumberRules roomRules
+  is-number =
+      let none = 26 when noneFree (baseEntries t) ∷ [] in
+      refusal-append (tableRules t ++ (roomNumber when small ∷ [])) none rows-some
+      ∙ ap (λ (n : ℕ). first n (refusal none)) (behind-table t (roomNumber when small ∷ []))
+
+  refused : {n : ℕ} → renumberRefusal t room ≡ n → (n ≡ 0 → ⊥) → Answers t room (Refused n) room
+  unfolding renumbered renumberLeft
+  refused {n} e z = (rw e (refused-of n _ _ z), rw e (sym (left-kept n _ room z)))
+
+  pub examined-refused : {found : Examined} {n : ℕ} → found ≡ examined t → found ≡ Examined·Refused n → Answers t room (Refused n) room
+  examined-refused {found} {n} e k =
+      let z = refused-some t e k in
+      refused (is-number ∙ rw (← refused-number t e k, first-some n (refusal (roomNumber when small ∷ [])) z) (first-some n _ z)) z
+
+  module _ (a : tableRefusal t ≡ 0) where
+    short : small ≡ true → Answers t room (Refused roomNumber) room
+    unfolding refusal
+    short s = refused (is-number ∙ rw (a, s)) (λ e. omega (arith, e))
+
+    module _ (s : small ≡ false) where
+      none-left : noneFree (baseEntries t) ≡ true → Answers t room (Refused 26) room
+      unfolding refusal
+      none-left e = refused (is-number ∙ rw (a, s, e)) (λ q. omega (arith, q))
+
+      given :
+          noneFree (baseEntries t) ≡ false → {n k : ℕ} {u : List ℕ} → n ≡ length (newNumbersOf t) → k ≡ bitsSet (usedNumbers (baseEntries t))
+          → length (newNumbersOf t) ≤ length room → u ≡ sets room 0 (newNumbersOf t) → Answers t room (Given n k) u
+      unfolding refusal renumbered renumberLeft
+      given e en ek h g =
+          let z : renumberRefusal t room ≡ 0 = is-number ∙ rw (a, s, e) in
+          (rw (z, en, ek), rw (z, left-put (newNumbersOf t) room) (g ∙ sets-at-start room (newNumbersOf t) h))
+
+-- ---- What is used at the end: those that are kept are given
+
+used-same : (es : List Entry) (z : ℕ) → among z (heldIds es ++ newNumbers es) ≡ among z (usedNumbers es)
+unfolding heldIds usedNumbers newNumbers keptIds keptOf
+used-same es z =
+    let own = enabledIds processorType es in
+    rw (among-append z (own ++ keptIds es) (newNumbers es), among-append z own (keptIds es), among-append z own (newNumbers es))
+    (once (among z own) (among z (keptIds es)) (among z (newNumbers es)) (kept-given (shares es) (heldIds es) (enabledOf ioApicType es) z))
+  where
+    once : (a b c : Bool) → (b ≡ true → c ≡ true) → ((a || b) || c) ≡ (a || c)
+    once true b c f = refl
+    once false true c f = sym (f refl)
+    once false false c f = refl
+
+-- ---- From what the passes over an accepted table have found
+
+module _ (t : List ℕ) (p : Sections) (a : tableRefusal t ≡ 0) (placed : Placed t p) (room : List ℕ) where
+  abbrev base : List Entry
+  base = baseEntries t
+
+  -- The parts that they go over.
+  abbrev cpuRows : List ℕ
+  cpuRows = part headerSize (p .buses) t
+
+  abbrev apicRows : List ℕ
+  apicRows = part (p .ioapics) (p .interrupts) t
+
+  -- How many are enabled, and the sets of the processors' IDs and of those that are held.
+  module _ {n m : ℕ} (en : n ≡ length (enabledIn processorSize cpuRows)) (em : m ≡ length (enabledIn entrySize apicRows))
+      {cpus held : List ℕ} (ec : cpus ≡ putAll (replicate 4 0) (outside (replicate 4 0) (enabledIn processorSize cpuRows)))
+      (eh : held ≡ putAll cpus (outside cpus (enabledIn entrySize apicRows))) where
+    small-apics : Small (enabledOf ioApicType base)
+    unfolding enabledOf
+    small-apics = small-keep enabled (small-keep (ofType ioApicType) (small-base t (placed .bytes)))
+
+    ids : enabledIn entrySize apicRows ≡ each idOf (enabledOf ioApicType base)
+    unfolding enabledIds
+    ids = sym (placed-ioapics t p placed)
+
+    count-is : length (newNumbersOf t) ≡ m
+    unfolding newNumbersOf newNumbers
+    count-is =
+        length-numbers (shares base) (heldIds base) (enabledOf ioApicType base)
+        ∙ sym (length-each idOf (enabledOf ioApicType base)) ∙ sym (ap length ids) ∙ sym em
+
+    cpus-has : Has cpus (enabledIds processorType base)
+    cpus-has =
+        rw (ec, outside-none (enabledIn processorSize cpuRows), placed-processors t p placed)
+        (has-all (replicate 4 0) [] has-none (enabledIn processorSize cpuRows))
+
+    shared-is : (apic : Entry) → Bytes apic → holds cpus (idOf apic) ≡ shares base apic
+    unfolding shares
+    shared-is apic b = cpus-has .same (idOf apic) (b 1)
+
+    kept-is : outside cpus (enabledIn entrySize apicRows) ≡ keptIds base
+    unfolding keptIds keptOf
+    kept-is = ap (outside cpus) ids ∙ outside-kept (shares base) cpus shared-is small-apics
+
+    held-has : Has held (heldIds base)
+    unfolding heldIds
+    held-has = rw (eh, kept-is) (has-all cpus (enabledIds processorType base) cpus-has (keptIds base))
+
+    -- 26 by counting: both counts are of numbers below 255 that are apart.
+    enabled-is : n ≡ length (enabledIds processorType base)
+    enabled-is = en ∙ sym (ap length (placed-processors t p placed))
+
+    pub few : n + m ≤ 510
+    few =
+        let bytes = placed .bytes in
+        let obey = obeyed t a in
+        omega (
+          arith,
+          enabled-is,
+          em,
+          ap length (placed-ioapics t p placed),
+          apart-below everyone (enabledIds processorType base) (obey .processors) (processors-below t a bytes),
+          apart-below everyone (enabledIds ioApicType base) (obey .ioapics) (ioapics-below t a bytes),
+        )
+
+    none-by : noneFree base ≡ ltb everyone (n + m)
+    none-by =
+        none-free t a (placed .bytes)
+        ∙ rw (enabled-is, em, ap length ids, length-each idOf (enabledOf ioApicType base))
+
+    -- No number that is held is 255, and those that are kept are held.
+    none-255 : among everyone (heldIds base) ≡ false
+    none-255 = whether (among everyone (heldIds base)) (λ e. absurd (omega (arith, held-below t a (placed .bytes) everyone e))) (λ e. e)
+
+    kept-held : Within (keptOf (shares base) (enabledOf ioApicType base)) (heldIds base)
+    unfolding heldIds keptIds keptOf
+    kept-held z q = rw (among-append z (enabledIds processorType base) (keptIds base), q) (or-true (among z (enabledIds processorType base)))
+
+    pub room-short : length room < m → Answers t room (Refused roomNumber) room
+    unfolding tooSmall
+    room-short h = short t room a (rw count-is (lt-ltb (length room) m h))
+
+    module _ (h : m ≤ length room) where
+      fits : tooSmall (length (newNumbersOf t)) room ≡ false
+      unfolding tooSmall
+      fits = rw count-is (le-ltb (length room) m h)
+
+      pub all-used : everyone < n + m → Answers t room (Refused 26) room
+      all-used k = none-left t room a fits (none-by ∙ lt-ltb everyone (n + m) k)
+
+      module _ (k : n + m ≤ everyone) where
+        some : noneFree base ≡ false
+        some = none-by ∙ le-ltb everyone (n + m) k
+
+        -- What is given.
+        numbers-is : numbersIn cpus held (enabledIn entrySize apicRows) ≡ newNumbersOf t
+        unfolding newNumbersOf newNumbers noneFree
+        numbers-is =
+            ap (numbersIn cpus held) ids
+            ∙ numbers-are (shares base) cpus shared-is small-apics held (heldIds base) held-has none-255 kept-held some
+
+        pub give-room : (length (enabledIn entrySize apicRows) ≤ length room) × Below everyone (numbersIn cpus held (enabledIn entrySize apicRows))
+        unfolding newNumbersOf newNumbers noneFree keptIds keptOf
+        give-room =
+            (rw (← em) h, rw numbers-is (numbers-below (shares base) (heldIds base) (enabledOf ioApicType base) some (kept-below t a (placed .bytes))))
+
+        -- How many are used then.
+        used-is : {used : List ℕ} → used ≡ putAll held (numbersIn cpus held (enabledIn entrySize apicRows)) → length (members used) ≡ bitsSet (usedNumbers base)
+        unfolding newNumbersOf bitsSet
+        used-is {used} e =
+            let has : Has used (heldIds base ++ newNumbers base) = rw (e, numbers-is) (has-all held (heldIds base) held-has (newNumbers base)) in
+            let bits : bitsOf used ≡ 256 = omega (arith, has .size) in
+            let p : ℕ → Bool = λ (y : ℕ). among y (usedNumbers base) in
+            ap length
+            (members-by p used (λ y l. has .same y (omega (arith, l, has .size)) ∙ used-same base y)
+            ∙ ap (λ (b : ℕ). keep p (below b)) bits)
+
+        pub all-given :
+            {used u : List ℕ} {q : ℕ} → u ≡ sets room 0 (numbersIn cpus held (enabledIn entrySize apicRows))
+            → used ≡ putAll held (numbersIn cpus held (enabledIn entrySize apicRows)) → q ≡ length (members used) → Answers t room (Given m q) u
+        all-given e f g = given t room a fits some (sym count-is) (g ∙ used-is f) (rw count-is h) (rw numbers-is at e)
