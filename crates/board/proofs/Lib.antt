@@ -2,4 +2,5 @@ pub mod Computed
 pub mod Printed
 pub mod Cases
 pub mod Slots
+pub mod Renumber
 pub mod Bench

@@ -1,4 +1,5 @@
 pub mod Board
 pub mod Cases
 pub mod Slots
+pub mod Renumber
 pub mod Printed
