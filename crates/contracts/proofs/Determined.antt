@@ -88,6 +88,7 @@ use Rattle.routes.proofs.slot.Reads as routes-slot
 use Rattle.marks.proofs.gather.Reads as marks-gather
 use Rattle.addresses.proofs.seen.Reads as addresses-seen
 use Rattle.slots.proofs.list.Reads as slots-list
+use Rattle.renumbering.proofs.renumber.Reads as renumbering-renumber
 use Rattle.exports.proofs.ruxtajma_judge.Reads as ruxtajma-judge
 use Rattle.exports.proofs.ruxtajma_parts.Reads as ruxtajma-parts
 use Rattle.exports.proofs.ruxtajma_entry.Reads as ruxtajma-entry
@@ -98,6 +99,7 @@ use Rattle.exports.proofs.ruxtajma_io_routes.Reads as ruxtajma-io-routes
 use Rattle.exports.proofs.ruxtajma_local_routes.Reads as ruxtajma-local-routes
 use Rattle.exports.proofs.ruxtajma_slot_routes.Reads as ruxtajma-slot-routes
 use Rattle.exports.proofs.ruxtajma_slots.Reads as ruxtajma-slots
+use Rattle.exports.proofs.ruxtajma_renumber.Reads as ruxtajma-renumber
 use Rattle.exports.proofs.ruxtajma_address.Reads as ruxtajma-address
 use Rattle.exports.proofs.ruxtajma_write.Reads as ruxtajma-write
 use Rattle.exports.proofs.ruxtajma_edit.Reads as ruxtajma-edit
@@ -424,6 +426,11 @@ addresses-seen-determined κ a x y s t p q = p ∙ sym q
 pub slots-list-determined : Determines slots-list.Post (λ κ s. now (s .1 .0))
 slots-list-determined κ a x y s t p q = (p .0 ∙ sym (q .0), p .1 ∙ sym (q .1))
 
+-- ---- renumbering
+
+pub renumbering-renumber-determined : Determines renumbering-renumber.Post (λ κ s. now (s .1 .0))
+renumbering-renumber-determined κ a x y s t p q = (p .0 ∙ sym (q .0), p .1 ∙ sym (q .1))
+
 -- ---- exports
 
 pub ruxtajma-judge-determined : Answers ruxtajma-judge.Post
@@ -455,6 +462,9 @@ ruxtajma-slot-routes-determined κ a x y s t p q = (p .0 ∙ sym (q .0), p .1 �
 
 pub ruxtajma-slots-determined : Determines ruxtajma-slots.Post (λ κ s. now (s .1 .0))
 ruxtajma-slots-determined κ a x y s t p q = (p .0 ∙ sym (q .0), p .1 ∙ sym (q .1))
+
+pub ruxtajma-renumber-determined : Determines ruxtajma-renumber.Post (λ κ s. now (s .1 .0))
+ruxtajma-renumber-determined κ a x y s t p q = (p .0 ∙ sym (q .0), p .1 ∙ sym (q .1))
 
 pub ruxtajma-address-determined : Answers ruxtajma-address.Post
 ruxtajma-address-determined κ a x y s t p q = p ∙ sym q
