@@ -15,7 +15,8 @@ use Rattle.mps.specs.Rules.{enabledOf, enabledIds}
 use Rattle.mps.specs.Judge.{tableRules, tableRefusal, examined}
 use Rattle.mps.specs.Answers.{renumberedOf}
 use Rattle.mps.specs.Rooms.{tooSmall, roomRules}
-use Rattle.mps.specs.Renumber.{shares, keptIds, heldIds, newNumbers, newNumbersOf, noneFree, usedNumbers, bitsSet, renumberRules, renumberRefusal, renumbered, renumberLeft}
+use Rattle.mps.specs.Renumber.{shares, keptIds, heldIds, newNumbers, newNumbersOf, noneFree, usedNumbers, bitsSet}
+use Rattle.mps.specs.Renumber.{renumberRules, renumberRefusal, renumbered, renumberLeft}
 use Rattle.mps.specs.declared.Sections.{Sections}
 use Rattle.mps.specs.declared.Examined.{Examined}
 use Rattle.mps.specs.declared.Examined.the-variants.{Refused as Examined·Refused}
@@ -58,7 +59,9 @@ module _ (t room : List ℕ) where
   rows-some = refl
 
   -- The table's rows, 19, then 26.
-  is-number : renumberRefusal t room ≡ first (first (tableRefusal t) (refusal (roomNumber when small ∷ []))) (refusal (26 when noneFree (baseEntries t) ∷ []))
+  is-number :
+      renumberRefusal t room
+      ≡ first (first (tableRefusal t) (refusal (roomNumber when small ∷ []))) (refusal (26 when noneFree (baseEntries t) ∷ []))
   unfolding renumberRefusal renumberRules roomRules
   is-number =
       let none = 26 when noneFree (baseEntries t) ∷ [] in
@@ -207,13 +210,16 @@ module _ (t : List ℕ) (p : Sections) (a : tableRefusal t ≡ 0) (placed : Plac
             ap (numbersIn cpus held) ids
             ∙ numbers-are (shares base) cpus shared-is small-apics held (heldIds base) held-has none-255 kept-held some
 
-        pub give-room : (length (enabledIn entrySize apicRows) ≤ length room) × Below everyone (numbersIn cpus held (enabledIn entrySize apicRows))
+        pub give-room :
+            (length (enabledIn entrySize apicRows) ≤ length room) × Below everyone (numbersIn cpus held (enabledIn entrySize apicRows))
         unfolding newNumbersOf newNumbers noneFree keptIds keptOf
         give-room =
             (rw (← em) h, rw numbers-is (numbers-below (shares base) (heldIds base) (enabledOf ioApicType base) some (kept-below t a (placed .bytes))))
 
         -- How many are used then.
-        used-is : {used : List ℕ} → used ≡ putAll held (numbersIn cpus held (enabledIn entrySize apicRows)) → length (members used) ≡ bitsSet (usedNumbers base)
+        used-is :
+            {used : List ℕ} → used ≡ putAll held (numbersIn cpus held (enabledIn entrySize apicRows))
+            → length (members used) ≡ bitsSet (usedNumbers base)
         unfolding newNumbersOf bitsSet
         used-is {used} e =
             let has : Has used (heldIds base ++ newNumbers base) = rw (e, numbers-is) (has-all held (heldIds base) held-has (newNumbers base)) in

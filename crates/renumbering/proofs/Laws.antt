@@ -1,25 +1,24 @@
 -- The numbers by sets of words are those of the definition. Assumes nothing.
-use Prim.Native.Nat.{ℕ, zero, suc, _+_, _≤_, _<_}
+use Prim.Native.Nat.{ℕ, suc, _+_, _<_}
 use mathlib.Core.Path.{_≡_, refl, sym, ap, _∙_}
-use mathlib.Core.Bool.{Bool, true, false, not, _||_, or-false, or-comm, true≢false}
+use mathlib.Core.Bool.{Bool, true, false, not, _||_, or-comm}
 use mathlib.Core.List.{List, [], _∷_, _++_}
 use native.Mathlib.Omega.{arith}
 use native.Mathlib.Nat.{add-zero}
-use lib.ListN.{length, getD, replicate}
+use lib.ListN.{length, replicate}
 use lib.Dec.{eqb}
 use borrow.Author.Tests.{ne-eqb, eqb-true}
 use Rattle.mps.specs.Words.{among, none, head, keep, each, rising, below}
-use Rattle.mps.specs.Layout.{Entry, processorType, ioApicType, idOf, everyone}
-use Rattle.mps.specs.Rules.{enabledOf, enabledIds}
-use Rattle.mps.specs.Renumber.{shares, keptIds, free, lowestFree, numbersFrom, findsNone, heldIds, newNumbers, noneFree, usedNumbers, bitsSet}
-use Rattle.laws.proofs.Tests.{whether, or-parts, same-test, either}
-use Rattle.laws.proofs.Lists.{among-first, among-rest, among-cases, keep-in, keep-out, keep-append, keep-each, Within}
-use Rattle.laws.proofs.Rising.{rising-append, keep-rising}
+use Rattle.mps.specs.Layout.{Entry, idOf, everyone}
+use Rattle.mps.specs.Renumber.{free, lowestFree, numbersFrom, findsNone}
+use Rattle.laws.proofs.Tests.{whether, or-parts}
+use Rattle.laws.proofs.Lists.{among-first, among-rest, among-cases, keep-append, Within}
+use Rattle.laws.proofs.Rising.{rising-append}
 use Rattle.laws.proofs.Small.{Bytes, Small, small-none, small-more}
-use Rattle.laws.proofs.Counting.{among-append}
+use Rattle.laws.proofs.Counting.{among-append, among-again}
 use Rattle.laws.proofs.Renumber.{keptOf, lowest-below, numbers-new, numbers-own, finds-new, finds-own, kept-new, kept-own}
-use Rattle.sets.specs.Sets.{holds, withNumber, putAll, bitsOf, members, lowestOut}
-use Rattle.sets.proofs.Laws.{holds-none, length-put, holds-put, length-all, holds-all, members-by, lowest-by}
+use Rattle.sets.specs.Sets.{holds, withNumber, putAll, bitsOf, lowestOut}
+use Rattle.sets.proofs.Laws.{holds-none, length-put, holds-put, length-all, holds-all, lowest-by}
 use Rattle.renumbering.specs.Giving.{outside, numberIn, numbersIn}
 
 -- ---- A set of four words that has the numbers of a list
@@ -54,10 +53,9 @@ module _ (words xs : List ℕ) (has : Has words xs) (n : ℕ) where
   has-more l = record { size = length-put words n ∙ has .size; same = put-same l }
 
   pub has-again : n < 256 → among n xs ≡ true → Has (withNumber words n) xs
-  has-again l e = record {
-    size = length-put words n ∙ has .size;
-    same = λ m h. put-same l m h ∙ whether (eqb m n) (λ t. rw (t, eqb-true m n t, e)) (λ f. rw f);
-  }
+  has-again l e =
+      let more = has-more l in
+      record { size = more .size; same = λ m h. more .same m h ∙ among-again m n xs e }
 
 -- ---- The lowest that is not used: 255 is not, so it is the lowest free number, or 255
 

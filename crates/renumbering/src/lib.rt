@@ -113,7 +113,8 @@ fn give(out: &mut [u8], used: &mut [u64; 4], processors: &[u64; 4], s: &[u8])
     let mut place = 0;
     let mut at = 0;
     while layout::ENTRY_SIZE <= s.len() - at {
-        if s[at + layout::APIC_FLAGS] % 2 == 1 {
+        let flags = s[at + layout::APIC_FLAGS];
+        if flags % 2 == 1 {
             let n = number(used, processors, s[at + layout::ENTRY_ID]);
             sets::put(used, n);
             out[place] = n;

@@ -11,7 +11,7 @@ use lib.Seq.{sets}
 use borrow.Author.Tests.{eq-eqb, ne-eqb}
 use Rattle.mps.specs.Words.{among, keep, each}
 use Rattle.mps.specs.Sums.{total}
-use Rattle.mps.specs.Layout.{Entry, enabled, busSlots}
+use Rattle.mps.specs.Layout.{Entry, busSlots}
 use Rattle.mps.specs.Sections.{rows}
 use Rattle.laws.proofs.Tests.{whether}
 use Rattle.laws.proofs.Lists.{among-at, keep-in, keep-out}

@@ -14,21 +14,13 @@ use Rattle.mps.specs.Answers.{lentOf}
 use Rattle.mps.specs.Rooms.{tooSmall, lentRefusal, lentLeft, fitted, fitLeft}
 use Rattle.mps.specs.Routes.{Question, pairSize, routesOf, wrongLine, lineRules, routeRefusal, routed, routesLeft}
 use Rattle.mps.specs.Slots.{Slot, slotRoutesOf, wrongSlot, slotRules, slotRefusal, slotRouted, slotRoutesLeft}
-use Rattle.mps.specs.declared.Sections.{Sections}
 use Rattle.mps.specs.declared.Examined.{Examined}
-use Rattle.mps.specs.declared.Examined.the-variants.{Accepted, Refused as Examined·Refused}
+use Rattle.mps.specs.declared.Examined.the-variants.{Refused as Examined·Refused}
 use Rattle.mps.specs.declared.Lent.{Lent}
 use Rattle.mps.specs.declared.Lent.the-variants.{Refused}
-use Rattle.laws.proofs.Refusals.{number, first-some, first-none, refusal-append}
+use Rattle.laws.proofs.Refusals.{number, first-some, first-none}
 use Rattle.laws.proofs.Lent.{lent-early, lent-none, left-kept, lent-refused, fit-late}
-use Rattle.laws.proofs.Small.{Bytes}
-use Rattle.judge.specs.Placed.{Placed}
-use Rattle.judge.proofs.Laws.{accepted-number, accepted-places, refused-number, refused-some}
-
--- The table is accepted where the judge says so, with the places that it answers.
-pub examined-accepted : (t : List ℕ) → Bytes t → {found : Examined} {p : Sections} → found ≡ examined t → found ≡ Accepted p
-    → (tableRefusal t ≡ 0) × Placed t p
-examined-accepted t bytes e k = (sym (accepted-number t e k), accepted-places t bytes e k)
+use Rattle.judge.proofs.Laws.{refused-number, refused-some, behind-table}
 
 -- ---- Any query: its own rows, and its pairs
 
@@ -51,8 +43,7 @@ module _ (t : List ℕ) (own : List Rule) (some : among 0 (each number own) ≡ 
   rules-some = some
 
   rules-number : refusal (tableRules t ++ own) ≡ first (tableRefusal t) (refusal own)
-  unfolding tableRefusal tableRules among each
-  rules-number = refusal-append (tableRules t) own refl
+  rules-number = behind-table t own
 
   pub given-none : given t own pairs room ≡ 0 → tableRefusal t ≡ 0
   given-none e =

@@ -1,6 +1,6 @@
 -- The ways out of the listing: what the code has found there, and the answer. Assumes nothing.
 use Prim.Native.Nat.{ℕ, _*_, _/_, _≤_}
-use mathlib.Core.Path.{_≡_, refl, sym, ap, _∙_}
+use mathlib.Core.Path.{_≡_, sym, ap, _∙_}
 use mathlib.Core.Bool.{Bool, true, false, not, _||_, or-false}
 use mathlib.Core.List.{List}
 use native.Mathlib.Omega.{arith}
@@ -8,7 +8,7 @@ use lib.Dec.{leb}
 use lib.ListN.{length}
 use lib.Seq.{sets}
 use borrow.Author.Tests.{leb-true, leb-false, not-true, not-false}
-use Rattle.mps.specs.Words.{among, each, keep, joined, below}
+use Rattle.mps.specs.Words.{among, keep, joined, below}
 use Rattle.mps.specs.Layout.{Entry, sourceBus, sourceIrq}
 use Rattle.mps.specs.Refusals.{roomNumber}
 use Rattle.mps.specs.Judge.{tableRules, tableRefusal, examined}
@@ -20,9 +20,8 @@ use Rattle.mps.specs.declared.Lent.{Lent}
 use Rattle.mps.specs.declared.Lent.the-variants.{Count, Refused}
 use Rattle.laws.proofs.Lists.{length-each, keep-most}
 use Rattle.laws.proofs.Rising.{keep-rising}
-use Rattle.laws.proofs.Refusals.{number}
 use Rattle.laws.proofs.Lent.{lent-early, left-kept, lent-refused, fit-put, fit-short, fit-late}
-use Rattle.judge.proofs.Laws.{refused-number, refused-some}
+use Rattle.judge.proofs.Laws.{refused-number, refused-some, table-some}
 use Rattle.roll.specs.Roll.{busBit, marked}
 use Rattle.sets.specs.Sets.{holds, members}
 use Rattle.sets.proofs.Laws.{members-all}
@@ -34,16 +33,12 @@ use Rattle.slots.proofs.Writing.{length-slots}
 abbrev pub Answers : List ℕ → List ℕ → Lent → List ℕ → Type 0
 Answers t room r u = (r ≡ slotsListed t room) × (u ≡ slotsLeft t room)
 
-rules-some : (t : List ℕ) → among 0 (each number (tableRules t)) ≡ false
-unfolding tableRules among each
-rules-some t = refl
-
 -- A refused table.
 pub examined-refused : (t room : List ℕ) {found : Examined} {n : ℕ} → found ≡ examined t → found ≡ Examined·Refused n → Answers t room (Refused n) room
 unfolding slotsListed slotsLeft slotsRefusal tableRefusal
 examined-refused t room {found} {n} e k =
     let z = refused-some t e k in
-    let early = lent-early (tableRules t) (rules-some t) (tooSmall (length (slotsOf t)) room) (sym (refused-number t e k)) z in
+    let early = lent-early (tableRules t) (table-some t) (tooSmall (length (slotsOf t)) room) (sym (refused-number t e k)) z in
     (rw early (lent-refused n _ z), rw early (sym (left-kept n _ room z)))
 
 -- An accepted one's answer goes into the room as any does.
@@ -52,7 +47,7 @@ pub listed-late :
     → {r : Lent} {u : List ℕ} → (r ≡ fitted answer (length answer / slotSize) room) × (u ≡ fitLeft answer room) → Answers t room r u
 unfolding slotsListed slotsLeft slotsRefusal tableRefusal fitted fitLeft
 listed-late t room a is e =
-    let k = fit-late (tableRules t) (rules-some t) (slotsOf t) room a in
+    let k = fit-late (tableRules t) (table-some t) (slotsOf t) room a in
     (rw (k, is) (e .0), rw (k, is) (e .1))
 
 -- ---- The slots of a set

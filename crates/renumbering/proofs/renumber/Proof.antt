@@ -10,7 +10,8 @@ of-table-requires : tie.Need-of-table-requires
 of-table-requires c κs =
     let e = c .before .before .before .before in
     let known = e .before .before in
-    examined-accepted (known .before .args .t .now) (λ i. omega (arith, known .shared-slice-known .given i)) (e .examine .ensures) (c .before .before .found2 .given .1)
+    examined-accepted (known .before .args .t .now) (λ i. omega (arith, known .shared-slice-known .given i))
+    (e .examine .ensures) (c .before .before .found2 .given .1)
 
 returns : tie.Need-returns
 returns c =

@@ -3,7 +3,8 @@ use native.Mathlib.Omega.{arith}
 use borrow.Author.Needs.{needs}
 use Rattle.mps.specs.Routes.{question, routesOf}
 use Rattle.routes.specs.Pairs.{sideOf}
-use Rattle.routes.proofs.Numbers.{examined-accepted, examined-refused, lineOwn, line-some, line-answers}
+use Rattle.judge.proofs.Laws.{examined-accepted}
+use Rattle.routes.proofs.Numbers.{examined-refused, lineOwn, line-some, line-answers}
 use Rattle.routes.proofs.query.Statement.{statement}
 use Rattle.routes.proofs.query.Tie as tie
 

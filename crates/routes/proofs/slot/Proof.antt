@@ -2,7 +2,8 @@
 use native.Mathlib.Omega.{arith}
 use borrow.Author.Needs.{needs}
 use Rattle.mps.specs.Slots.{slot, slotRoutesOf}
-use Rattle.routes.proofs.Numbers.{examined-accepted, examined-refused, slotOwn, slot-some, slot-answers}
+use Rattle.judge.proofs.Laws.{examined-accepted}
+use Rattle.routes.proofs.Numbers.{examined-refused, slotOwn, slot-some, slot-answers}
 use Rattle.routes.proofs.slot.Statement.{statement}
 use Rattle.routes.proofs.slot.Tie as tie
 

@@ -1,8 +1,7 @@
 -- The judge's refusal is the listing's; else the table is accepted, with its places.
-use mathlib.Core.Path.{sym}
 use native.Mathlib.Omega.{arith}
 use borrow.Author.Needs.{needs}
-use Rattle.judge.proofs.Laws.{accepted-number, accepted-places}
+use Rattle.judge.proofs.Laws.{examined-accepted}
 use Rattle.slots.proofs.Answering.{examined-refused}
 use Rattle.slots.proofs.list.Statement.{statement}
 use Rattle.slots.proofs.list.Tie as tie
@@ -13,7 +12,7 @@ of-table-requires c κs =
     let m = c .before .before .found2 .given in
     let bytes = c .before .before .before .before .before .before .shared-slice-known .given in
     let t = c .before .before .before .before .before .before .before .args .t .now in
-    (sym (accepted-number t e (m .1)), accepted-places t (λ i. omega (arith, bytes i)) e (m .1))
+    examined-accepted t (λ i. omega (arith, bytes i)) e (m .1)
 
 returns : tie.Need-returns
 returns c =
