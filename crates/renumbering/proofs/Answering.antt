@@ -1,13 +1,13 @@
 -- The ways out: what the code has found there, and the answer. Assumes nothing.
 use Prim.Native.Nat.{ℕ, zero, suc, _+_, _≤_, _<_}
 use mathlib.Core.Path.{_≡_, refl, sym, ap, _∙_}
-use mathlib.Core.Bool.{Bool, true, false, _||_, or-true}
+use mathlib.Core.Bool.{Bool, true, false, not, _||_, or-true, true≢false}
 use mathlib.Core.List.{List, [], _∷_, _++_}
 use native.Mathlib.Omega.{arith}
 use lib.Dec.{ltb}
 use lib.ListN.{length, replicate}
 use lib.Seq.{sets}
-use borrow.Author.Tests.{lt-ltb, le-ltb}
+use borrow.Author.Tests.{lt-ltb, le-ltb, ne-eqb}
 use Rattle.mps.specs.Words.{among, each, keep, first, part, below}
 use Rattle.mps.specs.Refusals.{_when_, refusal, roomNumber}
 use Rattle.mps.specs.Layout.{Entry, ofType, headerSize, processorSize, entrySize, processorType, ioApicType, idOf, enabled, everyone, baseEntries}
@@ -29,16 +29,16 @@ use Rattle.laws.proofs.Lent.{left-kept, left-put}
 use Rattle.laws.proofs.Stores.{sets-at-start}
 use Rattle.laws.proofs.Small.{Bytes, Small, small-base, small-keep}
 use Rattle.laws.proofs.Counting.{Below, among-append, apart-below}
-use Rattle.laws.proofs.Renumber.{keptOf, length-numbers, numbers-below}
+use Rattle.laws.proofs.Renumber.{Same, keptOf, length-numbers, numbers-below}
 use Rattle.apics.specs.Enabled.{enabledIn}
 use Rattle.sets.specs.Sets.{holds, putAll, bitsOf, members}
 use Rattle.sets.proofs.Laws.{members-by}
 use Rattle.accepted.proofs.Obeyed.{obeyed}
-use Rattle.accepted.proofs.Numbering.{processors-below, ioapics-below, kept-below, held-below, none-free}
+use Rattle.accepted.proofs.Numbering.{kept-ids, processors-below, ioapics-below, kept-below, held-below, none-free}
 use Rattle.judge.specs.Placed.{Placed}
 use Rattle.judge.proofs.Laws.{refused-number, refused-some, behind-table, placed-processors, placed-ioapics}
-use Rattle.renumbering.specs.Giving.{outside, numbersIn}
-use Rattle.renumbering.proofs.Laws.{Has, has-none, has-all, outside-none, outside-kept, numbers-are, kept-given}
+use Rattle.renumbering.specs.Giving.{numbersIn}
+use Rattle.renumbering.proofs.Laws.{Has, has-none, has-all, has-same, numbers-are, kept-given}
 
 -- ---- The number, and the answer
 
@@ -95,6 +95,24 @@ module _ (t room : List ℕ) where
           let z : renumberRefusal t room ≡ 0 = is-number ∙ rw (a, s, e) in
           (rw (z, en, ek), rw (z, left-put (newNumbersOf t) room) (g ∙ sets-at-start room (newNumbersOf t) h))
 
+-- ---- What is held: the numbers of all that are enabled, since one that shares its number has it of a processor
+
+among-keep : (p : ℕ → Bool) (z : ℕ) (xs : List ℕ) → p z ≡ true → among z xs ≡ among z (keep p xs)
+unfolding among keep
+among-keep p z [] e = refl
+among-keep p z (x ∷ xs) e =
+    whether (p x)
+    (λ t. rw (t, keep, among-keep p z xs e))
+    (λ f. rw (f, keep, ne-eqb z x (λ q. true≢false (sym e ∙ ap p q ∙ f)), among-keep p z xs e))
+
+held-same : (es : List Entry) → Same (enabledIds processorType es ++ enabledIds ioApicType es) (heldIds es)
+unfolding heldIds
+held-same es z =
+    let own = enabledIds processorType es in
+    let all = enabledIds ioApicType es in
+    rw (among-append z own all, among-append z own (keptIds es), kept-ids es)
+    (whether (among z own) (λ t. rw t) (λ f. rw f (among-keep (λ (n : ℕ). not (among n own)) z all (rw f))))
+
 -- ---- What is used at the end: those that are kept are given
 
 used-same : (es : List Entry) (z : ℕ) → among z (heldIds es ++ newNumbers es) ≡ among z (usedNumbers es)
@@ -124,8 +142,8 @@ module _ (t : List ℕ) (p : Sections) (a : tableRefusal t ≡ 0) (placed : Plac
 
   -- How many are enabled, and the sets of the processors' IDs and of those that are held.
   module _ {n m : ℕ} (en : n ≡ length (enabledIn processorSize cpuRows)) (em : m ≡ length (enabledIn entrySize apicRows))
-      {cpus held : List ℕ} (ec : cpus ≡ putAll (replicate 4 0) (outside (replicate 4 0) (enabledIn processorSize cpuRows)))
-      (eh : held ≡ putAll cpus (outside cpus (enabledIn entrySize apicRows))) where
+      {cpus held : List ℕ} (ec : cpus ≡ putAll (replicate 4 0) (enabledIn processorSize cpuRows))
+      (eh : held ≡ putAll cpus (enabledIn entrySize apicRows)) where
     small-apics : Small (enabledOf ioApicType base)
     unfolding enabledOf
     small-apics = small-keep enabled (small-keep (ofType ioApicType) (small-base t (placed .bytes)))
@@ -142,20 +160,18 @@ module _ (t : List ℕ) (p : Sections) (a : tableRefusal t ≡ 0) (placed : Plac
 
     cpus-has : Has cpus (enabledIds processorType base)
     cpus-has =
-        rw (ec, outside-none (enabledIn processorSize cpuRows), placed-processors t p placed)
+        rw (ec, placed-processors t p placed)
         (has-all (replicate 4 0) [] has-none (enabledIn processorSize cpuRows))
 
     shared-is : (apic : Entry) → Bytes apic → holds cpus (idOf apic) ≡ shares base apic
     unfolding shares
     shared-is apic b = cpus-has .same (idOf apic) (b 1)
 
-    kept-is : outside cpus (enabledIn entrySize apicRows) ≡ keptIds base
-    unfolding keptIds keptOf
-    kept-is = ap (outside cpus) ids ∙ outside-kept (shares base) cpus shared-is small-apics
-
     held-has : Has held (heldIds base)
-    unfolding heldIds
-    held-has = rw (eh, kept-is) (has-all cpus (enabledIds processorType base) cpus-has (keptIds base))
+    held-has =
+        has-same held (enabledIds processorType base ++ enabledIds ioApicType base) (heldIds base)
+        (rw (eh, placed-ioapics t p placed) (has-all cpus (enabledIds processorType base) cpus-has (enabledIn entrySize apicRows)))
+        (held-same base)
 
     -- 26 by counting: both counts are of numbers below 255 that are apart.
     enabled-is : n ≡ length (enabledIds processorType base)
@@ -185,7 +201,9 @@ module _ (t : List ℕ) (p : Sections) (a : tableRefusal t ≡ 0) (placed : Plac
 
     kept-held : Within (keptOf (shares base) (enabledOf ioApicType base)) (heldIds base)
     unfolding heldIds keptIds keptOf
-    kept-held z q = rw (among-append z (enabledIds processorType base) (keptIds base), q) (or-true (among z (enabledIds processorType base)))
+    kept-held z q =
+        let own = enabledIds processorType base in
+        rw (among-append z own (keptIds base), q) (or-true (among z own))
 
     pub room-short : length room < m → Answers t room (Refused roomNumber) room
     unfolding tooSmall
@@ -214,7 +232,8 @@ module _ (t : List ℕ) (p : Sections) (a : tableRefusal t ≡ 0) (placed : Plac
             (length (enabledIn entrySize apicRows) ≤ length room) × Below everyone (numbersIn cpus held (enabledIn entrySize apicRows))
         unfolding newNumbersOf newNumbers noneFree keptIds keptOf
         give-room =
-            (rw (← em) h, rw numbers-is (numbers-below (shares base) (heldIds base) (enabledOf ioApicType base) some (kept-below t a (placed .bytes))))
+            let kept = kept-below t a (placed .bytes) in
+            (rw (← em) h, rw numbers-is (numbers-below (shares base) (heldIds base) (enabledOf ioApicType base) some kept))
 
         -- How many are used then.
         used-is :
@@ -222,7 +241,8 @@ module _ (t : List ℕ) (p : Sections) (a : tableRefusal t ≡ 0) (placed : Plac
             → length (members used) ≡ bitsSet (usedNumbers base)
         unfolding newNumbersOf bitsSet
         used-is {used} e =
-            let has : Has used (heldIds base ++ newNumbers base) = rw (e, numbers-is) (has-all held (heldIds base) held-has (newNumbers base)) in
+            let has : Has used (heldIds base ++ newNumbers base) =
+            rw (e, numbers-is) (has-all held (heldIds base) held-has (newNumbers base)) in
             let bits : bitsOf used ≡ 256 = omega (arith, has .size) in
             let p : ℕ → Bool = λ (y : ℕ). among y (usedNumbers base) in
             ap length

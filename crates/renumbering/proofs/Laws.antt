@@ -7,7 +7,7 @@ use native.Mathlib.Omega.{arith}
 use native.Mathlib.Nat.{add-zero}
 use lib.ListN.{length, replicate}
 use lib.Dec.{eqb}
-use borrow.Author.Tests.{ne-eqb, eqb-true}
+use borrow.Author.Tests.{ne-eqb}
 use Rattle.mps.specs.Words.{among, none, head, keep, each, rising, below}
 use Rattle.mps.specs.Layout.{Entry, idOf, everyone}
 use Rattle.mps.specs.Renumber.{free, lowestFree, numbersFrom, findsNone}
@@ -16,10 +16,10 @@ use Rattle.laws.proofs.Lists.{among-first, among-rest, among-cases, keep-append
 use Rattle.laws.proofs.Rising.{rising-append}
 use Rattle.laws.proofs.Small.{Bytes, Small, small-none, small-more}
 use Rattle.laws.proofs.Counting.{among-append, among-again}
-use Rattle.laws.proofs.Renumber.{keptOf, lowest-below, numbers-new, numbers-own, finds-new, finds-own, kept-new, kept-own}
+use Rattle.laws.proofs.Renumber.{Same, keptOf, lowest-below, numbers-new, numbers-own, finds-new, finds-own, kept-new, kept-own}
 use Rattle.sets.specs.Sets.{holds, withNumber, putAll, bitsOf, lowestOut}
 use Rattle.sets.proofs.Laws.{holds-none, length-put, holds-put, length-all, holds-all, lowest-by}
-use Rattle.renumbering.specs.Giving.{outside, numberIn, numbersIn}
+use Rattle.renumbering.specs.Giving.{numberIn, numbersIn}
 
 -- ---- A set of four words that has the numbers of a list
 
@@ -30,18 +30,18 @@ pub record Has (words xs : List ℕ) : Type 0 where
 pub has-all : (words xs : List ℕ) → Has words xs → (ns : List ℕ) → Has (putAll words ns) (xs ++ ns)
 has-all words xs has ns = record {
   size = length-all words ns ∙ has .size;
-  same = λ n h. holds-all words ns n (omega (arith, h, has .size)) ∙ rw (has .same n h, among-append n xs ns) (or-comm (among n ns) (among n xs));
+  same =
+      λ n h.
+      holds-all words ns n (omega (arith, h, has .size)) ∙ rw (has .same n h, among-append n xs ns) (or-comm (among n ns) (among n xs));
 }
-
--- What an empty set is without.
-pub outside-none : (ids : List ℕ) → outside (replicate 4 0) ids ≡ ids
-unfolding outside keep
-outside-none [] = refl
-outside-none (id ∷ ids) = rw (holds-none 4 id) (ap (λ (l : List ℕ). id ∷ l) (outside-none ids))
 
 pub has-none : Has (replicate 4 0) []
 unfolding among
 has-none = record { size = refl; same = λ n h. holds-none 4 n }
+
+-- It is by their numbers that they are in, not by their order.
+pub has-same : (words xs ys : List ℕ) → Has words xs → Same xs ys → Has words ys
+has-same words xs ys has e = record { size = has .size; same = λ n h. has .same n h ∙ e n }
 
 module _ (words xs : List ℕ) (has : Has words xs) (n : ℕ) where
   put-same : n < 256 → (m : ℕ) → m < 256 → holds (withNumber words n) m ≡ (eqb m n || among m xs)
@@ -102,14 +102,6 @@ length-in cpus used (id ∷ ids) = ap suc (length-in cpus (withNumber used (numb
 
 -- Of entries whose IDs are in a set where they share a processor's.
 module _ (shared : Entry → Bool) (cpus : List ℕ) (is : (apic : Entry) → Bytes apic → holds cpus (idOf apic) ≡ shared apic) where
-  pub outside-kept : {apics : List Entry} → Small apics → outside cpus (each idOf apics) ≡ keptOf shared apics
-  unfolding outside keep each keptOf
-  outside-kept small-none = refl
-  outside-kept (small-more {e} {es} b h) =
-      whether (shared e)
-      (λ t. rw (is e b, t, keep) (outside-kept h))
-      (λ f. rw (is e b, f, keep, each) (ap (λ (l : List ℕ). idOf e ∷ l) (outside-kept h)))
-
   -- Where those that are kept are used and each finds a number, the numbers by the sets are the definition's.
   pub numbers-are :
       {apics : List Entry} → Small apics → (used held : List ℕ) → Has used held → among everyone held ≡ false → Within (keptOf shared apics) held

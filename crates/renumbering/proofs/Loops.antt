@@ -1,67 +1,48 @@
 -- What the two loops keep. Assumes nothing.
 use Prim.Native.Nat.{ℕ, _+_, _-_, _%_, _≤_, _<_}
 use mathlib.Core.Path.{_≡_, refl, ap, _∙_}
-use mathlib.Core.Bool.{true, false, not}
 use mathlib.Core.List.{List, [], _∷_}
 use native.Mathlib.Omega.{arith}
 use lib.ListN.{length, getD, set, drop}
 use lib.Seq.{sets}
-use Rattle.mps.specs.Words.{keep}
 use Rattle.mps.specs.Layout.{everyone}
-use Rattle.laws.proofs.Lists.{keep-in, keep-out}
 use Rattle.laws.proofs.Counting.{Below, below-first, below-rest}
 use Rattle.laws.proofs.Writes.{Writes, writes-done, writes-next}
 use Rattle.apics.specs.Enabled.{enabledIn}
 use Rattle.apics.proofs.Enabled.{enabled-done, enabled-on, enabled-off}
-use Rattle.sets.specs.Sets.{holds, withNumber, putAll}
-use Rattle.renumbering.specs.Giving.{outside, numberIn, numbersIn}
+use Rattle.sets.specs.Sets.{withNumber, putAll}
+use Rattle.renumbering.specs.Giving.{numberIn, numbersIn}
 use Rattle.renumbering.proofs.Laws.{length-in}
 
 -- ---- hold
 
 -- With the IDs of the rows left it comes to those of all, in number and in the set.
-abbrev pub Puts : List ℕ → List ℕ → List ℕ → ℕ → List ℕ → ℕ → ℕ → Type 0
-Puts set₀ but s n set count at =
+abbrev pub Puts : List ℕ → List ℕ → ℕ → List ℕ → ℕ → ℕ → Type 0
+Puts set₀ s n set count at =
     (at ≤ length s)
     × (count ≤ at)
     × (count + length (enabledIn n (drop at s)) ≡ length (enabledIn n s))
-    × (putAll set (outside but (enabledIn n (drop at s))) ≡ putAll set₀ (outside but (enabledIn n s)))
+    × (putAll set (enabledIn n (drop at s)) ≡ putAll set₀ (enabledIn n s))
 
-module _ (set₀ but s : List ℕ) (n : ℕ) (words : List ℕ) (count at : ℕ) (inv : Puts set₀ but s n words count at) where
-  pub puts-done : length s - at < n → (count ≡ length (enabledIn n s)) × (words ≡ putAll set₀ (outside but (enabledIn n s)))
-  unfolding outside keep putAll
+module _ (set₀ s : List ℕ) (n : ℕ) (words : List ℕ) (count at : ℕ) (inv : Puts set₀ s n words count at) where
+  pub puts-done : length s - at < n → (count ≡ length (enabledIn n s)) × (words ≡ putAll set₀ (enabledIn n s))
+  unfolding putAll
   puts-done f =
       let none = enabled-done n s at (inv .0) f in
       (omega (arith, inv .2, ap length none), rw none at (inv .3))
 
   module _ (z : 4 ≤ n) (f : n ≤ length s - at) where
-    pub puts-off : (getD s (at + 3) 0 % 2 ≡ 1 → ⊥) → Puts set₀ but s n words count (at + n)
+    pub puts-off : (getD s (at + 3) 0 % 2 ≡ 1 → ⊥) → Puts set₀ s n words count (at + n)
     puts-off p =
         let same = enabled-off n s at (inv .0) z f p in
         (omega (arith, f, inv .0), omega (arith, inv .1), rw same at (inv .2), rw same at (inv .3))
 
-    -- The row there is enabled: its ID is in the other set, or it is put.
-    module _ (p : getD s (at + 3) 0 % 2 ≡ 1) where
-      abbrev id : ℕ
-      id = getD s (at + 1) 0
-
-      abbrev ids : List ℕ
-      ids = enabledIn n (drop (at + n) s)
-
-      here : enabledIn n (drop at s) ≡ id ∷ ids
-      here = enabled-on n s at (inv .0) z f p
-
-      pub puts-passed : holds but id ≡ true → Puts set₀ but s n words (count + 1) (at + n)
-      unfolding outside
-      puts-passed h =
-          let same : outside but (enabledIn n (drop at s)) ≡ outside but ids = rw here (keep-out (λ (x : ℕ). not (holds but x)) id ids (rw h)) in
-          (omega (arith, f, inv .0), omega (arith, inv .1, f), omega (arith, inv .2, ap length here), rw same at (inv .3))
-
-      pub puts-put : holds but id ≡ false → {more : List ℕ} → more ≡ withNumber words id → Puts set₀ but s n more (count + 1) (at + n)
-      unfolding outside putAll
-      puts-put h e =
-          let more : outside but (enabledIn n (drop at s)) ≡ id ∷ outside but ids = rw here (keep-in (λ (x : ℕ). not (holds but x)) id ids (rw h)) in
-          (omega (arith, f, inv .0), omega (arith, inv .1, f), omega (arith, inv .2, ap length here), rw e (rw more at (inv .3)))
+    pub puts-on :
+        getD s (at + 3) 0 % 2 ≡ 1 → {more : List ℕ} → more ≡ withNumber words (getD s (at + 1) 0) → Puts set₀ s n more (count + 1) (at + n)
+    unfolding putAll
+    puts-on p e =
+        let here = enabled-on n s at (inv .0) z f p in
+        (omega (arith, f, inv .0), omega (arith, inv .1, f), omega (arith, inv .2, ap length here), rw e (rw here at (inv .3)))
 
 -- ---- give
 

@@ -2,14 +2,9 @@
 -- set of the enabled processors' IDs and the set of the used numbers. That they are the definition's in an accepted table is
 -- proved in proofs/Laws.antt.
 use Prim.Native.Nat.{ℕ}
-use mathlib.Core.Bool.{not, cond}
+use mathlib.Core.Bool.{cond}
 use mathlib.Core.List.{List, [], _∷_}
-use Rattle.mps.specs.Words.{keep}
 use Rattle.sets.specs.Sets.{holds, withNumber, lowestOut}
-
--- The IDs that are not in a set.
-unfoldable pub outside : List ℕ → List ℕ → List ℕ
-outside words ids = keep (λ (id : ℕ). not (holds words id)) ids
 
 -- The number of an I/O APIC with this ID: the lowest that is not used where it shares a processor's, else its own.
 unfoldable pub numberIn : List ℕ → List ℕ → ℕ → ℕ

@@ -4,9 +4,9 @@
 // stand in mps's specs/Renumber.antt; how the code comes to the numbers, in specs/Giving.antt. A refusal leaves the room as it
 // was, 26 too: whether a number is free for each that needs one is known before the first is given, by counting.
 //
-// The used numbers are a set of 256 bits. One pass over the processors puts theirs in, one over the I/O APICs those of the
-// ones that keep theirs, and one more gives the numbers. So the cost is that of the table, and no number is looked for: the
-// lowest that is free is found by the words of the set.
+// The used numbers are a set of 256 bits. One pass over the processors puts theirs in, one over the I/O APICs theirs, since one
+// that shares its ID has it in already and every other keeps it; one more gives the numbers. So the cost is that of the table,
+// and no number is looked for: the lowest that is free is found by the words of the set.
 use mps::Examined;
 use mps::Renumbered;
 use mps::Sections;
@@ -22,7 +22,7 @@ ghost use Rattle.laws.proofs.Counting.{Below};
 ghost use Rattle.apics.specs.Enabled.{enabledIn};
 ghost use Rattle.sets.specs.Sets.{putAll};
 ghost use Rattle.judge.specs.Placed.{Placed};
-ghost use Rattle.renumbering.specs.Giving.{outside, numberIn, numbersIn};
+ghost use Rattle.renumbering.specs.Giving.{numberIn, numbersIn};
 
 // A byte for each enabled I/O APIC stands in the room from its first byte on, in table order.
 pub fn renumber(t: &[u8], out: &mut [u8]) -> Renumbered
@@ -46,17 +46,15 @@ fn of_table(t: &[u8], p: Sections, out: &mut [u8]) -> Renumbered
     let buses = p.buses;
     let ioapics = p.ioapics;
     let interrupts = p.interrupts;
-    let none: [u64; 4] = [0; 4];
     let mut processors: [u64; 4] = [0; 4];
     let enabled = hold(
         &mut processors,
-        &none,
         &t[layout::HEADER_SIZE..buses],
         layout::PROCESSOR_SIZE,
     );
     let apics = &t[ioapics..interrupts];
     let mut used = processors;
-    let count = hold(&mut used, &processors, apics, layout::ENTRY_SIZE);
+    let count = hold(&mut used, apics, layout::ENTRY_SIZE);
     if out.len() < count {
         return Renumbered::Refused(19);
     }
@@ -70,21 +68,17 @@ fn of_table(t: &[u8], p: Sections, out: &mut [u8]) -> Renumbered
     }
 }
 
-// Puts in the IDs of the enabled APICs, of entries of `size` bytes each, but for those that are in another set. Answers how
-// many are enabled.
-fn hold(set: &mut [u64; 4], but: &[u64; 4], s: &[u8], size: usize) -> usize
+// Puts in the IDs of the enabled APICs, of entries of `size` bytes each. Answers how many they are.
+fn hold(set: &mut [u64; 4], s: &[u8], size: usize) -> usize
     requires { ⌜ 4 ≤ size ⌝ }
     ensures { λ r. ⌜ r ≡ length (enabledIn size (now (s .entry))) ⌝ }
-    ensures { λ _. ⌜ now (set .exit) ≡ putAll (now (set .entry)) (outside (now (but .entry)) (enabledIn size (now (s .entry)))) ⌝ }
+    ensures { λ _. ⌜ now (set .exit) ≡ putAll (now (set .entry)) (enabledIn size (now (s .entry))) ⌝ }
 {
     let mut count = 0;
     let mut at = 0;
     while size <= s.len() - at {
         if s[at + layout::APIC_FLAGS] % 2 == 1 {
-            let id = s[at + layout::ENTRY_ID];
-            if !sets::contains(but, id) {
-                sets::put(set, id);
-            }
+            sets::put(set, s[at + layout::ENTRY_ID]);
             count += 1;
         }
         at += size;

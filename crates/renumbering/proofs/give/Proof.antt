@@ -25,7 +25,8 @@ number-requires c κs =
     omega (arith, gives-small _ _ _ _ _ _ _ _ (l .inv) (omega arith) (c .before .before .if1 .taken))
 
 room :
-    (c : tie.After-put Inv-loop μ-loop) → let l = c .before .before .before .before .before .before .before .before .loop in l .place < length (l .out)
+    (c : tie.After-put Inv-loop μ-loop) → let l = c .before .before .before .before .before .before .before .before .loop in
+    l .place < length (l .out)
 room c =
     let n = c .before .before .before .before .before in
     let l = n .before .before .before .loop in

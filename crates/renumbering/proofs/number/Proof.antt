@@ -7,7 +7,9 @@ use Rattle.renumbering.proofs.Laws.{number-new, number-own}
 use Rattle.renumbering.proofs.number.Statement.{statement}
 use Rattle.renumbering.proofs.number.Tie as tie
 
-low : (c : tie.After-lowest) → let a = c .before .before .before .args in c .lowest .result ≡ numberIn (a .processors .now) (a .used .now) (a .id)
+low :
+    (c : tie.After-lowest) → let a = c .before .before .before .args in
+    c .lowest .result ≡ numberIn (a .processors .now) (a .used .now) (a .id)
 low c =
     let n = c .before .before in
     let a = n .before .args in

@@ -8,8 +8,8 @@ use Rattle.renumbering.proofs.of_table.Tie as tie
 returns : tie.Need-returns
 returns c =
     let u = c .before in
-    let h = u .before .before .before .before in
-    let s = h .before .before .before .before .before .before in
+    let h = u .before .before .before in
+    let s = h .before .before .before .before .before in
     let a = s .args in
     room-short (a .t .now) (a .p) (s .pre .0) (s .pre .1) (a .out .now) (h .hold .ensures .0) (u .hold2 .ensures .0)
     (h .hold .ensures .1) (u .hold2 .ensures .1) (c .if1 .taken)
@@ -17,8 +17,8 @@ returns c =
 add-if2 : tie.Need-add-if2
 add-if2 c =
     let u = c .before in
-    let h = u .before .before .before .before in
-    let s = h .before .before .before .before .before .before in
+    let h = u .before .before .before in
+    let s = h .before .before .before .before .before in
     let a = s .args in
     let most = few (a .t .now) (a .p) (s .pre .0) (s .pre .1) (a .out .now) (h .hold .ensures .0) (u .hold2 .ensures .0)
     (h .hold .ensures .1) (u .hold2 .ensures .1) in
@@ -27,8 +27,8 @@ add-if2 c =
 returns-2 : tie.Need-returns-2
 returns-2 c =
     let u = c .before .before in
-    let h = u .before .before .before .before in
-    let s = h .before .before .before .before .before .before in
+    let h = u .before .before .before in
+    let s = h .before .before .before .before .before in
     let a = s .args in
     all-used (a .t .now) (a .p) (s .pre .0) (s .pre .1) (a .out .now) (h .hold .ensures .0) (u .hold2 .ensures .0)
     (h .hold .ensures .1) (u .hold2 .ensures .1) (c .before .if1 .left) (c .if2 .taken)
@@ -37,8 +37,8 @@ give-requires : tie.Need-give-requires
 give-requires c κs =
     let e = c .before .before .before in
     let u = e .before .before in
-    let h = u .before .before .before .before in
-    let s = h .before .before .before .before .before .before in
+    let h = u .before .before .before in
+    let s = h .before .before .before .before .before in
     let a = s .args in
     give-room (a .t .now) (a .p) (s .pre .0) (s .pre .1) (a .out .now) (h .hold .ensures .0) (u .hold2 .ensures .0)
     (h .hold .ensures .1) (u .hold2 .ensures .1) (e .before .if1 .left) (e .if2 .left)
@@ -48,8 +48,8 @@ returns-3 c =
     let g = c .before .before .before .before in
     let e = g .before .before .before .before in
     let u = e .before .before in
-    let h = u .before .before .before .before in
-    let s = h .before .before .before .before .before .before in
+    let h = u .before .before .before in
+    let s = h .before .before .before .before .before in
     let a = s .args in
     all-given (a .t .now) (a .p) (s .pre .0) (s .pre .1) (a .out .now) (h .hold .ensures .0) (u .hold2 .ensures .0)
     (h .hold .ensures .1) (u .hold2 .ensures .1) (e .before .if1 .left) (e .if2 .left)
