@@ -28,6 +28,10 @@ void sound_case(struct rng *r, struct test_case *c);
 /* At times, some random bytes behind the table. */
 void slack(struct rng *r, struct test_case *c);
 
+/* The builder's table, which is sound, and slack. */
+void finish_case(struct rng *r, const struct builder *b, const char *label,
+                 struct test_case *c);
+
 /* Two or three faults at once: the order of the tests. */
 void several_faults(struct rng *r, struct test_case *c);
 
@@ -248,6 +252,24 @@ void gen_slot_query(struct rng *r, struct asked *a, struct slot_query *q);
 /* Work out what is to be answered, word by word from the paper. */
 void expect_slot_routes(struct asked *a, struct slot_query *q);
 void expect_slots(struct asked *a, struct slot_list *l);
+
+/* ---- new numbers for the I/O APICs of a table ---- */
+
+enum { NUMBERED_MAX = 255 };   /* enabled I/O APICs; each has an ID of its own */
+
+struct numbering {
+    int expected;              /* in a large room: 0, 5 to 18, 26, or -1 */
+    size_t count;              /* where it is 0 or 26: the enabled I/O APICs, */
+    size_t given;              /* and those that share a processor's ID */
+    size_t used;               /* where it is 0: how many numbers are used, */
+    uint8_t numbers[NUMBERED_MAX];   /* and the new numbers */
+};
+
+/* A table of any kind, mostly one with shared IDs, often with nearly too many. */
+void gen_numbered(struct rng *r, struct test_case *c);
+
+/* Works out what is to be answered, word by word from the paper. */
+void expect_numbers(struct asked *a, struct numbering *n);
 
 /* ---- buffers that state any lengths, and places in them, for entry readers ---- */
 

@@ -82,14 +82,16 @@ static bool f15_name(struct rng *r, struct builder *b, const struct fault *f)
 
 /* ---- 16: enabled I/O APICs ---- */
 
-static bool f16_processor(struct rng *r, struct builder *b, const struct fault *f)
+/* One of them may have a processor's ID, but not two. */
+static bool f16_both_share(struct rng *r, struct builder *b, const struct fault *f)
 {
     uint8_t *e = pick(r, b, 2, enabled);
+    uint8_t *other = pick_other(r, b, 2, enabled, e);
     uint8_t *p = pick(r, b, 0, enabled);
 
-    if (e == NULL || p == NULL)
+    if (e == NULL || other == NULL || p == NULL)
         return false;
-    e[1] = p[1];
+    e[1] = other[1] = p[1];
     return true;
 }
 
@@ -157,7 +159,7 @@ const struct fault entry_faults[] = {
     { 15, "bus name", .entries = f15_name },
     { 16, "enabled I/O APIC 255", change_bits, 2, enabled, 1, 0, 255 },
     { 16, "enabled I/O APIC twice", same_id, 2, enabled },
-    { 16, "I/O APIC with a processor's ID", .entries = f16_processor },
+    { 16, "two I/O APICs with a processor's ID", .entries = f16_both_share },
     { 16, "I/O APIC address 0", .entries = f16_address_0 },
     { 16, "I/O APIC address not by 1,024", .entries = f16_address_odd },
     { 17, "interrupt type", over_limit, 3, NULL, 1, 40, 4 },

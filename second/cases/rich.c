@@ -136,15 +136,6 @@ static void rich_extended(struct rng *r, struct builder *b)
         set_subtractive(r, b);
 }
 
-static void finish(struct rng *r, const struct builder *b, const char *label,
-                   struct test_case *c)
-{
-    c->size = seal(b, c->bytes);
-    slack(r, c);
-    c->label = label;
-    c->expected = 0;
-}
-
 void rich_case(struct rng *r, struct test_case *c)
 {
     struct builder b;
@@ -158,7 +149,7 @@ void rich_case(struct rng *r, struct test_case *c)
     rich_interrupts(r, &b, 3, 2);
     rich_interrupts(r, &b, 4, 0);
     rich_extended(r, &b);
-    finish(r, &b, "rich", c);
+    finish_case(r, &b, "rich", c);
 }
 
 /* ---- chains ---- */
@@ -215,5 +206,5 @@ void chain_case(struct rng *r, struct test_case *c)
     }
     for (uint32_t i = rng_few(r, 10); i > 0; i--)
         add_unknown(&b, 131, 8, rng_byte(r));
-    finish(r, &b, "a chain of buses", c);
+    finish_case(r, &b, "a chain of buses", c);
 }

@@ -179,15 +179,6 @@ static uint32_t often_pci(struct rng *r)
     return often[rng_below(r, 4)];
 }
 
-static void finish(struct rng *r, const struct builder *b, const char *label,
-                   struct test_case *c)
-{
-    c->size = seal(b, c->bytes);
-    slack(r, c);
-    c->label = label;
-    c->expected = 0;
-}
-
 /* A rich table, most of whose buses are PCI and whose interrupts name slots. */
 static void slotted_case(struct rng *r, struct test_case *c)
 {
@@ -207,7 +198,7 @@ static void slotted_case(struct rng *r, struct test_case *c)
     EACH(&b, 3, e)
         if (rng_chance(r, same))
             name_slot(r, &n, e);
-    finish(r, &b, "slots", c);
+    finish_case(r, &b, "slots", c);
 }
 
 /* Some I/O APICs that are on or off, of which some have the ID of another. */
@@ -263,7 +254,7 @@ static void crowded_case(struct rng *r, struct test_case *c)
             e[5] = (uint8_t)((e[5] & 128) | i % 128);
         }
     }
-    finish(r, &b, "full of slots", c);
+    finish_case(r, &b, "full of slots", c);
 }
 
 void gen_slotted(struct rng *r, struct test_case *c)

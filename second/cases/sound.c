@@ -77,23 +77,51 @@ static void sound_buses(struct rng *r, struct builder *b, struct sketch *s,
     }
 }
 
+/*
+ * The IDs of I/O APICs that are on: drawn from those that no enabled processor has,
+ * and so often from the others.
+ */
+struct drawn {
+    uint8_t id[256];
+    uint32_t next[2];   /* of those, and of the others */
+    uint32_t sharing;   /* in 100 */
+};
+
+static bool next_id(const struct sketch *s, struct drawn *d, bool shared,
+                    uint8_t *one)
+{
+    uint32_t *k = &d->next[shared];
+
+    while (*k < 256 && (d->id[*k] == 255 || s->enabled.has[d->id[*k]] != shared))
+        ++*k;
+    if (*k == 256)
+        return false;
+    *one = d->id[(*k)++];
+    return true;
+}
+
+static bool draw_id(struct rng *r, const struct sketch *s, struct drawn *d,
+                    uint8_t *one)
+{
+    if (rng_chance(r, d->sharing) && next_id(s, d, true, one))
+        return true;
+    return next_id(s, d, false, one);
+}
+
 static void sound_io_apics(struct rng *r, struct builder *b, struct sketch *s,
                            size_t goal)
 {
-    uint8_t id[256];
+    static const uint8_t often[4] = { 0, 20, 50, 100 };
+    struct drawn d = { .next = { 0, 0 }, .sharing = often[rng_below(r, 4)] };
     uint32_t most = (uint32_t)(base_left(b, goal) / 8);
     uint32_t n = rng_few(r, most < 255 ? most : 255);
-    uint32_t next = 0;
 
-    rng_shuffled(r, id);
+    rng_shuffled(r, d.id);
     for (uint32_t i = 0; i < n && base_left(b, goal) >= 8; i++) {
         uint8_t one, flags;
         uint32_t address;
 
-        while (next < 256 && (id[next] == 255 || s->enabled.has[id[next]]))
-            next++;
-        if (next < 256 && rng_chance(r, 75)) {
-            one = id[next++];
+        if (rng_chance(r, 75) && draw_id(r, s, &d, &one)) {
             flags = loose(r, 1, 1);
             address = rng_range(r, 1, 0x3FFFFF) << 10;
         } else {
@@ -260,13 +288,19 @@ void slack(struct rng *r, struct test_case *c)
     }
 }
 
+void finish_case(struct rng *r, const struct builder *b, const char *label,
+                 struct test_case *c)
+{
+    c->size = seal(b, c->bytes);
+    slack(r, c);
+    c->label = label;
+    c->expected = 0;
+}
+
 void sound_case(struct rng *r, struct test_case *c)
 {
     struct builder b;
 
     sound_table(r, &b);
-    c->size = seal(&b, c->bytes);
-    slack(r, c);
-    c->label = "sound";
-    c->expected = 0;
+    finish_case(r, &b, "sound", c);
 }

@@ -24,8 +24,8 @@ void count_call(unsigned refusal)
 /* ---- what stood in the tables ---- */
 
 enum feature {
-    SOUND, ALL_TYPES, CPU_OFF, APIC_OFF, TO_ALL, CHAIN, UNKNOWN, BASE_FULL,
-    EXT_FULL,
+    SOUND, ALL_TYPES, CPU_OFF, APIC_OFF, SHARED_ID, TO_ALL, CHAIN, UNKNOWN,
+    BASE_FULL, EXT_FULL,
     BASE_44, BASE_4096, BASE_4097, EXT_4096, EXT_4097, FEATURES
 };
 
@@ -34,6 +34,7 @@ static const char *const named[FEATURES] = {
     [ALL_TYPES] = "all base types and 128 to 130",
     [CPU_OFF] = "a processor that is off",
     [APIC_OFF] = "an I/O APIC that is off",
+    [SHARED_ID] = "an I/O APIC on with the ID of a processor on",
     [TO_ALL] = "destination 255",
     [CHAIN] = "3 links to parents in a row",
     [UNKNOWN] = "unknown extended types",
@@ -76,6 +77,7 @@ static bool has_chain(struct builder *b, int links)
     return false;
 }
 
+static bool is_on(const uint8_t *e) { return e[3] & 1; }
 static bool is_off(const uint8_t *e) { return !(e[3] & 1); }
 static bool to_all(const uint8_t *e) { return e[6] == 255; }
 
@@ -83,6 +85,17 @@ static bool has(struct builder *b, uint8_t type, want *suits)
 {
     EACH(b, type, e)
         if (suits(e))
+            return true;
+    return false;
+}
+
+static bool has_shared_id(struct builder *b)
+{
+    struct list processors;
+
+    list_of(b, 0, is_on, &processors);
+    EACH(b, 2, e)
+        if (is_on(e) && processors.has[e[1]])
             return true;
     return false;
 }
@@ -106,6 +119,7 @@ static void note_sound(const uint8_t *bytes)
     noted[ALL_TYPES] += has_all_types(&b);
     noted[CPU_OFF] += has(&b, 0, is_off);
     noted[APIC_OFF] += has(&b, 2, is_off);
+    noted[SHARED_ID] += has_shared_id(&b);
     noted[TO_ALL] += has(&b, 3, to_all) || has(&b, 4, to_all);
     noted[CHAIN] += has_chain(&b, 3);
     noted[UNKNOWN] += has_unknown(&b);

@@ -145,11 +145,35 @@ static void the_board(void)
     check_byte("bootstrap off", 0, 3, 2, 23 + 256 * 14);
     check_byte("unknown name", 1, 2, 'J', 23 + 256 * 15);
     check_byte("address not by 1,024", 2, 5, 1, 23 + 256 * 16);
-    check_byte("I/O APIC with the processor's ID", 2, 1, 0, 23 + 256 * 16);
+    check_byte("I/O APIC that an interrupt names", 2, 1, 0, 23 + 256 * 17);
     check_byte("interrupt type 4", 3, 1, 4, 23 + 256 * 17);
     check_byte("local input 2", 4, 7, 2, 23 + 256 * 17);
     check_byte("bus that interrupts name", 1, 1, 1, 23 + 256 * 17);
     check_byte("another type", 3, 0, 4, 21);
+}
+
+/* Rule 16 as amended: a processor's ID, but no other I/O APIC's. */
+static void shared_id(void)
+{
+    struct builder b;
+
+    builder_start(&b, 0xFEE00000u);
+    add_processor(&b, 0, 3);
+    add_processor(&b, 7, 1);
+    add_io_apic(&b, 2, 1, 0xFEC00000u);
+    add_io_apic(&b, 3, 1, 0xFEC01000u);
+    add_io_apic(&b, 0, 0, 0xFEC02000u);
+    start_sealed(&b);
+    check_byte("I/O APIC with a processor's ID", 2, 1, 0, 0);
+    check_byte("a second one with the same", 3, 1, 0, 23 + 256 * 16);
+    check_byte("a second one with another's", 3, 1, 7, 0);
+    check_byte("a third one with the first's on", 4, 3, 1, 23 + 256 * 16);
+    check_byte("processor with another's ID", 1, 1, 0, 23 + 256 * 14);
+    check_byte("processor whose ID an I/O APIC has, to another", 1, 1, 9, 0);
+    check_byte("processor to an I/O APIC's ID", 1, 1, 7, 0);
+    check_byte("I/O APIC back to its own", 2, 1, 2, 0);
+    check_byte("the third one with a processor's on", 4, 3, 1, 0);
+    check_byte("I/O APIC 255", 2, 1, 255, 23 + 256 * 16);
 }
 
 /* Of 256 values, in a run that is not thorough, low and high ones and some. */
@@ -248,6 +272,7 @@ static void full_table(void)
 static void fixed_edits(struct rng *r)
 {
     the_board();
+    shared_id();
     every_byte(r);
     every_length(r);
     cut_board();

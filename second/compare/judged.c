@@ -132,6 +132,42 @@ static void destinations(void)
     fixed("local destination 255", &b, 0);
 }
 
+/* Rule 16 as amended. */
+static void shared_ids(void)
+{
+    struct builder b;
+
+    builder_start(&b, 0xFEE00000u);
+    add_processor(&b, 0, 3);
+    add_processor(&b, 4, 1);
+    add_processor(&b, 5, 0);
+    add_io_apic(&b, 4, 1, 0xFEC00000u);
+    fixed("I/O APIC with a processor's ID", &b, 0);
+    add_io_apic(&b, 4, 0, 0);
+    add_io_apic(&b, 5, 1, 0xFEC01000u);
+    add_io_apic(&b, 0, 1, 0xFEC02000u);
+    fixed("others with processors' IDs, one off", &b, 0);
+    add_io_apic(&b, 5, 1, 0xFEC03000u);
+    fixed("two I/O APICs with the ID of a processor that is off", &b, 16);
+    b.base[b.base_len - 7] = 4;
+    fixed("two I/O APICs with the ID of a processor", &b, 16);
+    b.base[b.base_len - 7] = 255;
+    fixed("I/O APIC 255 beside shared IDs", &b, 16);
+    b.base[b.base_len - 7] = 6, b.base[b.base_len - 3] = 2;
+    fixed("an address not by 1,024 beside shared IDs", &b, 16);
+    b.base[b.base_len - 5] = 0;
+    fixed("the same off", &b, 0);
+
+    builder_start(&b, 0xFEE00000u);
+    for (int i = 0; i < 127; i++)
+        add_processor(&b, (uint8_t)(2 * i), i == 0 ? 3 : 1);
+    for (int i = 126; i >= 0; i--)
+        add_io_apic(&b, (uint8_t)(2 * i), 1, 0xFEC00000u);
+    fixed("127 I/O APICs with the IDs of 127 processors", &b, 0);
+    add_io_apic(&b, 100, 1, 0xFEC00000u);
+    fixed("128 with 127 IDs", &b, 16);
+}
+
 static void ranges(void)
 {
     struct builder b;
@@ -166,6 +202,7 @@ static void fixed_tables(struct rng *r)
     lengths();
     chains();
     destinations();
+    shared_ids();
     ranges();
     long_buffers(r);
 }

@@ -36,17 +36,10 @@ static const uint64_t bus_names[32] = {
     KNOWN('V','M','E',' ',' ',' '), KNOWN('X','P','R','E','S','S'),
 };
 
-/* What the entries passed so far say of an ID, as bits. */
+/* Marks of an ID beside those of enabled APICs, which are in plain.h. */
 enum {
-    TAKEN = ENABLED,                               /* by an enabled APIC */
-    A_PROCESSOR = 2, AN_IO_APIC = 4, A_BUS = 8,    /* listed, enabled or not */
-    LINKED = 16, SEEN = 32                         /* see in_a_circle() */
-};
-
-struct judge {
-    struct table *table;
-    uint8_t ids[256];
-    uint8_t later;       /* the first of 14 to 18 that is broken, or 0 */
+    A_PROCESSOR = 4, AN_IO_APIC = 8, A_BUS = 16,   /* listed, enabled or not */
+    LINKED = 32, SEEN = 64                         /* see in_a_circle() */
 };
 
 static void start_judging(struct judge *j, struct table *t)
@@ -57,7 +50,7 @@ static void start_judging(struct judge *j, struct table *t)
     for (size_t i = 0; i < sizeof j->ids; i += 64)
         memset(j->ids + i, 0, 64);
     /* 255 is a destination on every board, and no enabled APIC may have it. */
-    j->ids[ALL] = A_PROCESSOR | AN_IO_APIC | TAKEN;
+    j->ids[ALL] = A_PROCESSOR | AN_IO_APIC | PROCESSOR_ON | IO_APIC_ON;
 }
 
 /* The loops come in the order of their rules, so the first number stays. */
@@ -105,7 +98,8 @@ static size_t pass_processors(struct judge *j, size_t at)
 {
     const uint8_t *b = j->table->bytes;
     size_t end = j->table->base_end;
-    uint32_t bootstraps = 0;
+    uint32_t bootstraps = 0, off = 0;
+    uint8_t before = 0;   /* the marks that enabled ones found at their IDs */
     bool broken = get32(b + 36) % 4096 != 0;
 
     for (; at + 20 <= end && b[at] == PROCESSOR; at += 20) {
@@ -117,11 +111,16 @@ static size_t pass_processors(struct judge *j, size_t at)
             if (!(flags & ENABLED))
                 broken = true;
         }
-        if (flags & ENABLED && *id & TAKEN)
-            broken = true;
-        *id |= A_PROCESSOR | (flags & ENABLED);
+        if (flags & ENABLED) {
+            before |= *id;
+            *id |= A_PROCESSOR | PROCESSOR_ON;
+        } else {
+            *id |= A_PROCESSOR;
+            off++;
+        }
     }
-    keep_in_mind(j, broken || bootstraps != 1, 14);
+    j->processors = (uint32_t)(at - HEADER_SIZE) / 20 - off;
+    keep_in_mind(j, broken || before & PROCESSOR_ON || bootstraps != 1, 14);
     return at;
 }
 
@@ -145,25 +144,35 @@ static size_t pass_buses(struct judge *j, size_t at)
 }
 
 /*
- * 16: "enabled I/O APIC: ID 255, ID of another enabled I/O APIC or enabled
- * processor, address 0 or not a multiple of 1,024"
+ * 16: "enabled I/O APIC: ID 255, ID of another enabled I/O APIC ..., address 0 or
+ * not a multiple of 1,024".  Document 02: "an ID shared with an enabled processor
+ * is no longer a fault".
  */
 static size_t pass_io_apics(struct judge *j, size_t at)
 {
     const uint8_t *b = j->table->bytes;
     size_t end = j->table->base_end;
+    size_t first = at;
+    uint32_t off = 0;
+    uint8_t before = 0;   /* as of processors */
     bool broken = false;
 
     for (; at + 8 <= end && b[at] == IO_APIC; at += 8) {
         uint8_t *id = &j->ids[b[at + 1]];
-        uint8_t on = b[at + 3] & ENABLED;
         uint32_t address = get32(b + at + 4);
 
-        if (on && (*id & TAKEN || address == 0 || address % 1024 != 0))
-            broken = true;
-        *id |= AN_IO_APIC | on;
+        if (b[at + 3] & ENABLED) {
+            if (address == 0 || address % 1024 != 0)
+                broken = true;
+            before |= *id;
+            *id |= AN_IO_APIC | IO_APIC_ON;
+        } else {
+            *id |= AN_IO_APIC;
+            off++;
+        }
     }
-    keep_in_mind(j, broken, 16);
+    j->io_apics = (uint32_t)(at - first) / 8 - off;
+    keep_in_mind(j, broken || before & IO_APIC_ON, 16);
     return at;
 }
 
@@ -374,9 +383,9 @@ static uint8_t walk_extended(struct judge *j)
     return pass_others(t, at) == t->ext_end ? 0 : 13;
 }
 
-uint8_t plain_judge_walk(const uint8_t *bytes, size_t n, struct table *t)
+uint8_t plain_judge_ids(const uint8_t *bytes, size_t n, struct table *t,
+                        struct judge *j)
 {
-    struct judge j;
     uint8_t refusal;
 
     if ((refusal = judge_header(bytes, n)) != 0)
@@ -384,12 +393,19 @@ uint8_t plain_judge_walk(const uint8_t *bytes, size_t n, struct table *t)
 
     t->bytes = bytes;
     t->base_end = get16(bytes + 4);
-    start_judging(&j, t);
-    if ((refusal = walk_base(&j)) != 0
+    start_judging(j, t);
+    if ((refusal = walk_base(j)) != 0
         || (refusal = judge_extended_part(t, n)) != 0
-        || (refusal = walk_extended(&j)) != 0)
+        || (refusal = walk_extended(j)) != 0)
         return refusal;
-    return j.later;
+    return j->later;
+}
+
+uint8_t plain_judge_walk(const uint8_t *bytes, size_t n, struct table *t)
+{
+    struct judge j;
+
+    return plain_judge_ids(bytes, n, t, &j);
 }
 
 uint8_t plain_judge_again(struct table *t)

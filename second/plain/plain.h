@@ -30,6 +30,22 @@ uint64_t plain_judge(const uint8_t *t, size_t n);
 /* The same; where it answers 0, it also tells where the entries stand. */
 uint8_t plain_judge_walk(const uint8_t *t, size_t n, struct table *walked);
 
+/* Marks of an ID: an enabled processor has it, an enabled I/O APIC has it. */
+enum { PROCESSOR_ON = ENABLED, IO_APIC_ON = 2 };
+
+/* What a judge knows of the entries that it has passed. */
+struct judge {
+    struct table *table;
+    uint8_t ids[256];      /* the marks of each, these and others; 255 has both */
+    uint32_t processors;   /* how many processors are enabled, */
+    uint32_t io_apics;     /* and how many I/O APICs */
+    uint8_t later;         /* the first of 14 to 18 that is broken, or 0 */
+};
+
+/* The same; where it answers 0, *j has all entries. */
+uint8_t plain_judge_ids(const uint8_t *t, size_t n, struct table *walked,
+                        struct judge *j);
+
 /*
  * Judges such a table again, where one of its entries has been changed but for
  * type and length and the base bytes still add to 0: 0, or 14 to 18.
@@ -166,6 +182,17 @@ uint64_t plain_slot_routes(const uint8_t *t, size_t n, uint8_t bus, uint8_t devi
  * each may be NULL if its length is 0.
  */
 uint64_t plain_slots(const uint8_t *t, size_t n, uint8_t *room, size_t size);
+
+/*
+ * New numbers for the I/O APICs: for each enabled one a byte, in table order, from
+ * the room's first byte.  One that has an enabled processor's ID gets the lowest
+ * free number from 0 to 254, any other keeps its own.  Answers how many it wrote,
+ * from bit 16 on, and how many numbers are used then, enabled processors counted,
+ * from bit 32 on; or the refusal number, 5 to 18, 19, or 26 where no number is free
+ * for one, and nothing was written.  What lies past them stays.  Table and room may
+ * not overlap; each may be NULL if its length is 0.
+ */
+uint64_t plain_renumber(const uint8_t *t, size_t n, uint8_t *room, size_t size);
 
 /*
  * Whether an address of a kind (0 I/O, 1 memory, 2 prefetch) is one of a bus.
