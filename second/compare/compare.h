@@ -19,7 +19,7 @@ static inline int each(void)
 
 typedef void sort_of_cases(struct rng *r, number count, const char *seed);
 
-sort_of_cases tables, dumps, parts, edits, queries, entries, slots;
+sort_of_cases tables, dumps, parts, edits, queries, entries, slots, numbers;
 
 /* Reads one dump, and lists it into rooms of several sizes. */
 void list_dump(struct rng *r, const struct dump_case *d);
@@ -56,5 +56,15 @@ void slots_in_every_room(const struct slot_list *l, size_t least, size_t most);
 
 /* The bench board, bit 7, buses of every name, full tables, and others. */
 void fixed_slots(struct rng *r);
+
+/* A table; the numberings that follow are of it, or other questions about it. */
+struct asked *number_table(const struct test_case *c);
+
+/* New numbers, in rooms of several sizes; or in every one from 0 bytes to so many. */
+void renumber(struct rng *r, const struct numbering *n);
+void renumber_in_every_room(const struct numbering *n, size_t most);
+
+/* The bench board, keepers late, APICs that are off, no number free, and others. */
+void fixed_numbers(struct rng *r);
 
 #endif

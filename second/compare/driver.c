@@ -138,14 +138,14 @@ static void test_slices(const struct rule *rule, const struct request *q,
                  "bytes changed that must stay");
 }
 
-static void take_outcome(void)
+static void take_outcome(const struct rule *rule)
 {
     uint64_t answer = plain.a.value[0];
 
     out.a = plain.a;
     out.refusal = ruxtajma_refusal(answer);
     out.inner = ruxtajma_inner(answer);
-    out.count = ruxtajma_count(answer);
+    out.count = rule->count != NULL ? rule->count(answer) : ruxtajma_count(answer);
     for (int i = 0; i < SLICES; i++)
         out.after[i] = plain.q.slice[i].bytes;
 }
@@ -163,7 +163,7 @@ const struct outcome *put(const struct rule *rule, const struct request *given,
     plain_call_of(q.kind)(&plain.q, &plain.a);
     our_call(&ours.q, &ours.a);
     compare(k.refusal);
-    take_outcome();
+    take_outcome(rule);
     must(right_form(rule, out.a.value[0]), "no such answer");
     test_known(&k);
     test_slices(rule, &q, &k);

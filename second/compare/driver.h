@@ -17,6 +17,7 @@ struct rule {
     uint8_t kind;
     uint32_t refusals, inner;   /* bits; inner ones come with 23 */
     size_t unit;                /* bytes in the room for each of its count */
+    size_t (*count)(uint64_t answer);   /* that, where it is not ruxtajma_count */
     bool edits;                 /* it may change its first slice */
 };
 

@@ -77,6 +77,9 @@ void our_call(const struct request *q, struct reply *a)
     case 'S':
         give(a, ruxtajma_slots(LENT(q, 0), LENT(q, ROOM)));
         break;
+    case 'N':
+        give(a, ruxtajma_renumber(LENT(q, 0), LENT(q, ROOM)));
+        break;
     case 'A':
         give(a, ruxtajma_address(LENT(q, 0), BYTE(0), BYTE(1), q->number[2]));
         break;

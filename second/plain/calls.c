@@ -93,6 +93,11 @@ static void slots(const struct request *q, struct reply *a)
     give(a, plain_slots(LENT(q, 0), LENT(q, ROOM)));
 }
 
+static void renumber(const struct request *q, struct reply *a)
+{
+    give(a, plain_renumber(LENT(q, 0), LENT(q, ROOM)));
+}
+
 static void address(const struct request *q, struct reply *a)
 {
     give(a, plain_address(LENT(q, 0), (uint8_t)q->number[0],
@@ -102,7 +107,8 @@ static void address(const struct request *q, struct reply *a)
 static plain_call *const calls[256] = {
     ['J'] = judge, ['D'] = read_dump, ['L'] = list, ['W'] = write_table,
     ['T'] = take_apart, ['E'] = edit, ['P'] = entry, ['I'] = io_routes,
-    ['C'] = local_routes, ['R'] = slot_routes, ['S'] = slots, ['A'] = address,
+    ['C'] = local_routes, ['R'] = slot_routes, ['S'] = slots, ['N'] = renumber,
+    ['A'] = address,
 };
 
 plain_call *plain_call_of(uint8_t kind)
