@@ -18,6 +18,8 @@ HEADER = [
  *of("table_address", "(uint32_t)answer", "(uint32_t)(answer >> 32)", "(uint32_t)(answer >> 8)", "(uint16_t)answer"),
  *of("base_end", "(size_t)(answer >> 16 & 65535)", "(size_t)(answer >> 32)", "(size_t)(answer >> 16)", "(size_t)(answer >> 16 & 255)", "(size_t)(answer >> 24 & 65535)"),
  *of("extended_end", "(size_t)(answer >> 32)", "(size_t)(answer >> 16 & 65535)", "(size_t)(answer >> 32 & 255)", "(size_t)(answer >> 40)", "(size_t)(answer >> 24)"),
+ *of("numbered", "(size_t)(answer >> 16 & 65535)", "(size_t)(answer >> 16)", "(size_t)(answer >> 32)", "(size_t)(answer >> 16 & 127)", "(size_t)(answer >> 24 & 65535)", "0"),
+ *of("used", "(size_t)(answer >> 32)", "(size_t)(answer >> 16 & 65535)", "(size_t)(answer >> 16)", "(size_t)(answer >> 32 & 127)", "(size_t)(answer >> 40)", "0"),
  *of("seen", "(unsigned)(answer >> 16 & 255)", "(unsigned)(answer >> 16)", "(unsigned)(answer >> 24 & 255)", "(unsigned)(answer >> 16 & 1)", "0"),
  *of("links", "(unsigned)(answer >> 24)", "(unsigned)(answer >> 16)", "(unsigned)(answer >> 24 & 127)", "(unsigned)(answer >> 32)", "0"),
  *[(0, f"enum {order}", "RUXTAJMA_NO, RUXTAJMA_YES, RUXTAJMA_UNDECLARED", order) for order in (
