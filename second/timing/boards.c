@@ -252,6 +252,31 @@ void make_one_slot(struct builder *b, uint32_t part)
     slots(b, 501 / part, 1, 0);
 }
 
+void make_few_sharing(struct builder *b, uint32_t part)
+{
+    processors(b, 200 / part, 0);
+    io_apics(b, 0, 6 / part);
+}
+
+void make_all_sharing(struct builder *b, uint32_t part)
+{
+    processors(b, 150 / part, 0);
+    io_apics(b, 0, 105 / part);
+}
+
+/* Of two that follow each other one shares, the first or the second. */
+void make_half_sharing(struct builder *b, uint32_t part)
+{
+    uint32_t n = 120 / part;
+
+    processors(b, n, 0);
+    for (uint32_t i = 0; i < n; i++) {
+        uint32_t which = i / 2 * 2654435761u >> 13;
+
+        io_apics(b, (i ^ which) & 1 ? i : n + i, 1);
+    }
+}
+
 void make_bench(struct builder *b, uint32_t part)
 {
     uint8_t board[HEADER + 52];
@@ -267,17 +292,28 @@ void make_pci_bench(struct builder *b, uint32_t part)
     memcpy(b->base + 20 + 2, "PCI   ", 6);   /* behind the processor */
 }
 
-void make_typical(struct builder *b, uint32_t part)
+static void typical(struct builder *b, uint32_t first)
 {
-    (void)part;
     processors(b, 4, 0);
     pci_buses(b, 4);
-    io_apics(b, 4, 2);
-    interrupts(b, 3, 21, 4, 4, 2);
+    io_apics(b, first, 2);
+    interrupts(b, 3, 21, 4, first, 2);
     interrupts(b, 4, 3, 4, 0, 4);
     mappings(b, 4, 4);
     tree(b, 3);
     modifiers(b, 2, 4);
+}
+
+void make_typical(struct builder *b, uint32_t part)
+{
+    (void)part;
+    typical(b, 4);
+}
+
+void make_shared(struct builder *b, uint32_t part)
+{
+    (void)part;
+    typical(b, 0);
 }
 
 size_t dump_around(const struct builder *b, size_t size, enum pointer pointer,

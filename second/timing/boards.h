@@ -32,16 +32,23 @@ make_board make_sixteen;
 make_board make_pci_slots, make_all_slots, make_one_slot;
 
 /*
+ * Processors, and I/O APICs that have an ID of theirs: 200 and 6; 150 and 105, which
+ * leaves no number over; 120 and 120, of which half keep a number of their own, in
+ * no regular order.
+ */
+make_board make_few_sharing, make_all_sharing, make_half_sharing;
+
+/*
  * 253 interrupts of one source to all of 250 I/O APICs, of which two are on, or
  * all.  These have one size, and so do
  */
 make_board make_few_targets, make_many_targets;
 
 /*
- * the bench board, it with a PCI bus for its ISA bus, and some 40 entries on PCI and
- * ISA, as boards of the day have.
+ * the bench board, it with a PCI bus for its ISA bus, some 40 entries on PCI and
+ * ISA, as boards of the day have, and the same with processors' IDs for its I/O APICs.
  */
-make_board make_bench, make_pci_bench, make_typical;
+make_board make_bench, make_pci_bench, make_typical, make_shared;
 
 /* Where the floating pointer of a dump stands; and the table in it. */
 enum pointer { FIRST, LAST, NOWHERE };

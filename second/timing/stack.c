@@ -64,6 +64,7 @@ static struct call {
     { .name = "local_routes", .kind = 'C', .ask = linked_call },
     { .name = "slot_routes", .kind = 'R', .ask = linked_call },
     { .name = "slots", .kind = 'S', .ask = linked_call },
+    { .name = "renumber", .kind = 'N', .ask = linked_call },
     { .name = "address", .kind = 'A', .ask = linked_call },
 }, known = { .name = "(known)", .ask = take_known };
 

@@ -56,10 +56,12 @@ static const struct board boards[] = {
       LAST, BIT(READ) | BIT(LIST) | BIT(LIST_FITTING), 0 },
     { "65,536 bytes, no pointer", make_typical, SUBJECT_ROOM, NOWHERE,
       BIT(READ) | BIT(LIST), BIT(READ) },
+    { "a typical board, IDs shared", make_shared, 0, FIRST, BIT(RENUMBER), 0 },
     { "200 processors", make_processors, 0, FIRST, BIT(JUDGE), BIT(JUDGE) },
     { "256 buses", make_buses, 0, FIRST, BIT(JUDGE), LISTS },
     { "256 buses, PCI and ISA", make_pci_buses, 0, FIRST, BIT(JUDGE), 0 },
-    { "250 I/O APICs", make_io_apics, 0, FIRST, BIT(JUDGE), BIT(JUDGE) },
+    { "250 I/O APICs", make_io_apics, 0, FIRST, BIT(JUDGE) | BIT(RENUMBER),
+      BIT(JUDGE) | BIT(RENUMBER) },
     { "500 interrupts", make_interrupts, 0, FIRST, BIT(JUDGE),
       LISTS | BIT(EDIT) | BIT(WRITE) },
     { "500 local interrupts", make_local_interrupts, 0, FIRST, BIT(JUDGE),
@@ -82,6 +84,12 @@ static const struct board boards[] = {
       BOTH_SLOTS },
     { "a PCI bus of 128 slots", make_all_slots, 0, FIRST, BOTH_SLOTS, BOTH_SLOTS },
     { "501 entries of one slot", make_one_slot, 0, FIRST, BOTH_SLOTS, BOTH_SLOTS },
+    { "200 processors, 6 sharing", make_few_sharing, 0, FIRST, BIT(RENUMBER),
+      BIT(RENUMBER) },
+    { "150 processors, 105 sharing", make_all_sharing, 0, FIRST, BIT(RENUMBER),
+      BIT(RENUMBER) },
+    { "120 processors, 60 of 120 sharing", make_half_sharing, 0, FIRST,
+      BIT(RENUMBER), BIT(RENUMBER) },
 };
 
 /* ---- what is asked of the board in b ---- */
@@ -200,8 +208,9 @@ static const char *const works[WORKS] = {
     [LIST_FITTING] = "list, room just fits", [EDIT] = "edit",
     [EDIT_REFUSED] = "edit refused with 23", [WRITE] = "write",
     [ROUTES] = "route", [LOCAL_ROUTES] = "local route",
-    [SLOT_ROUTES] = "slot route", [SLOTS] = "slots", [ADDRESS] = "address",
-    [IO_ADDRESS] = "I/O address", [WALK] = "walk the entries",
+    [SLOT_ROUTES] = "slot route", [SLOTS] = "slots", [RENUMBER] = "renumber",
+    [ADDRESS] = "address", [IO_ADDRESS] = "I/O address",
+    [WALK] = "walk the entries",
 };
 
 const char *label(const struct subject *s)
@@ -215,6 +224,9 @@ const char *label(const struct subject *s)
     if (s->work == SLOTS)
         snprintf(text + n, sizeof text - (size_t)n, ", slots %zu",
                  ruxtajma_count(s->answer));
+    if (s->work == RENUMBER)
+        snprintf(text + n, sizeof text - (size_t)n, ", numbers %zu",
+                 ruxtajma_numbered(s->answer));
     if (s->work == ADDRESS || s->work == IO_ADDRESS)
         snprintf(text + n, sizeof text - (size_t)n, ", links %u",
                  ruxtajma_links(s->answer));

@@ -8,13 +8,14 @@
 
 enum { OURS, PLAIN_O2, PLAIN_O3, PROGRAMS };
 enum {
-    SUBJECTS_MAX = 120, SUBJECT_ROOM = 65536, ROOM_SIZE = 1 << 17,
+    SUBJECTS_MAX = 140, SUBJECT_ROOM = 65536, ROOM_SIZE = 1 << 17,
     LABEL_WIDTH = 67
 };
 
 enum work {
     JUDGE, PARTS, READ, ADDRESSES, LIST, LIST_FITTING, EDIT, EDIT_REFUSED, WRITE,
-    ROUTES, LOCAL_ROUTES, SLOT_ROUTES, SLOTS, ADDRESS, IO_ADDRESS, WALK, WORKS
+    ROUTES, LOCAL_ROUTES, SLOT_ROUTES, SLOTS, RENUMBER, ADDRESS, IO_ADDRESS, WALK,
+    WORKS
 };
 
 struct subject {
@@ -55,7 +56,7 @@ void make_doubled(void);
 /* What is done, to what; and how much the answer of a query holds. */
 const char *label(const struct subject *s);
 
-/* Where listings, images, pairs and slots go. */
+/* Where listings, images, pairs, slots and numbers go. */
 extern uint8_t room[ROOM_SIZE];
 
 /*

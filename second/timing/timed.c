@@ -73,6 +73,7 @@ uint64_t TIMED(struct subject *s)
         return CALL(slot_routes)(s->bytes, s->size, s->bus, s->device, s->pin,
                                  room, s->room);
     case SLOTS: return CALL(slots)(s->bytes, s->size, room, s->room);
+    case RENUMBER: return CALL(renumber)(s->bytes, s->size, room, s->room);
     case ADDRESS: case IO_ADDRESS:
         return CALL(address)(s->bytes, s->size, s->bus, s->kind, s->address);
     case WALK: return walk(s);
