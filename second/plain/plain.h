@@ -150,7 +150,7 @@ uint64_t plain_edit(uint8_t *t, size_t n, size_t place,
                     const uint8_t *stated, size_t stated_length,
                     const uint8_t *wanted, size_t wanted_length);
 
-/* ---- asking a table: 5 to 18, 24, 25 and 19 ---- */
+/* ---- asking a table: 5 to 18, 24, 25, 19 and 26 ---- */
 
 /*
  * Where interrupts of a type from a bus and IRQ go, by the table at the start
