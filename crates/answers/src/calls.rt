@@ -54,7 +54,8 @@ fn parted(t: &[u8]) -> Answer
 
 pub fn known(kind: u8) -> bool {
     match kind {
-        b'J' | b'D' | b'L' | b'W' | b'T' | b'E' | b'P' | b'I' | b'C' | b'R' | b'S' | b'N' | b'A' => true,
+        b'J' | b'D' | b'L' | b'W' | b'T' | b'E' | b'P' | b'I' | b'C' | b'R' | b'S' | b'N' | b'A' =>
+            true,
         _ => false,
     }
 }
