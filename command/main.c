@@ -31,7 +31,7 @@ static const struct verb {
       4, 4, slot,
       "DEVICE is 0 to 31. A, a, INTA, INTA# and 0 are one pin. 'mpt slots' prints the bus, device\n"
       "and pin of each slot.\n" },
-    { "renumber", "TABLE", "each I/O APIC's number, and a new one where it is a processor's", "",
+    { "renumber", "TABLE", "each I/O APIC's number, and a new one where a processor that is on has it", "",
       1, 1, renumber,
       "A new number is the lowest from 0 to 254 that is free; processors and I/O APICs that are off\n"
       "take none. The table stays as it is, and other verbs name its numbers.\n" },

@@ -59,7 +59,10 @@ static inline unsigned ruxtajma_inner(uint64_t answer)
     return (unsigned)(answer >> 8 & 255);
 }
 
-/* How many bytes, pairs or slots were written; or how long an entry is. */
+/*
+ * How many bytes, pairs or slots were written; or how long an entry is.  Not of
+ * ruxtajma_renumber, which answers two values.
+ */
 static inline size_t ruxtajma_count(uint64_t answer)
 {
     return (size_t)(answer >> 16);

@@ -88,7 +88,7 @@ renumberCases =
     ∷ gives (numbers (on 0 ∷ off 7 ∷ off 1 ∷ []) (on 7 ∷ on 0 ∷ [])) (3 ∷ 7 ∷ 1 ∷ [])
     -- On both sides of where two words of 64 bits meet.
     ∷ gives (newNumbers (entries (first 63) (on 9 ∷ [])) ++ newNumbers (entries (first 64) (on 9 ∷ []))) (63 ∷ 64 ∷ [])
-    -- The last number, 254, is given where 0 to 253 are held; 255 never is. With it 255 bits are set.
+    -- The last number, 254, is given where 0 to 253 are held; 255 never is. Of 0 to 254, all used, 255 bits are set.
     ∷ gives (bitsSet (below 255) ∷ newNumbers (entries (first 254) (on 0 ∷ []))) (255 ∷ 254 ∷ [])
     ∷ gives (nothingFree (first 254) (on 0 ∷ []) ++ nothingFree (first 255) (on 0 ∷ [])) (0 ∷ 1 ∷ [])
     -- The first still finds one, and the second finds none. Where nobody needs one, none is missed.

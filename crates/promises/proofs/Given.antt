@@ -151,7 +151,8 @@ pub given-15 : (t : List ℕ) → Exactly (tableRefusal t) 15 (take 10 (tableRul
 unfolding tableRefusal tableRules among each
 given-15 t = given-exactly (take 10 (tableRules t)) 15 (wrongBuses (baseEntries t)) (drop 11 (tableRules t)) (omega arith) refl refl
 
--- 16: enabled I/O APIC: ID 255, ID of another enabled I/O APIC or enabled processor, address 0 or not a multiple of 1,024
+-- 16: enabled I/O APIC: ID 255, ID of another enabled I/O APIC, address 0 or not a multiple of 1,024; a processor's ID is no fault
+-- (document 02, ask 2)
 pub given-16 : (t : List ℕ) → Exactly (tableRefusal t) 16 (take 11 (tableRules t)) (wrongIoApics (baseEntries t))
 unfolding tableRefusal tableRules among each
 given-16 t = given-exactly (take 11 (tableRules t)) 16 (wrongIoApics (baseEntries t)) (drop 12 (tableRules t)) (omega arith) refl refl

@@ -13,7 +13,10 @@ use Rattle.mps.specs.Words.{among, any, twice, keep, each}
 use Rattle.mps.specs.Layout.{Entry, ofType, ioApicType, idOf, enabled, everyone, baseEntries}
 use Rattle.mps.specs.Rules.{enabledOf, enabledIds, misplaced, wrongIoApics}
 use Rattle.mps.specs.Judge.{tableRules, judged}
+use Rattle.mps.specs.Refusals.{innerNumber}
+use Rattle.mps.specs.Edits.{Edit, editedTable, innerRefusal, editRefusal, edited}
 use Rattle.mps.specs.declared.Judged.the-variants.{Refused}
+use Rattle.mps.specs.declared.Edited.the-variants.{Inner}
 use Rattle.laws.proofs.Tests.{whether, either, and-parts}
 use Rattle.laws.proofs.Lists.{any-none, any-keep, keep-keep, keep-in, keep-out, among-each}
 use Rattle.laws.proofs.Refusals.{so}
@@ -21,6 +24,7 @@ use Rattle.promises.specs.Declared.{target}
 use Rattle.promises.specs.IoApics.{IoApicAt, WrongAlone, TwoOfOneId}
 use Rattle.promises.proofs.Given.{given-16}
 use Rattle.promises.proofs.Judge.{refused-exactly}
+use Rattle.promises.proofs.Edits.{inner-exactly}
 
 -- The enabled I/O APICs.
 abbrev ons : List Entry → List Entry
@@ -161,4 +165,21 @@ refused-16 t =
     let row = wrong-16 (baseEntries t) in (
       λ e. let g = given .0 (answer .0 e) in (g .0, row .0 (g .1)),
       λ g. answer .1 (given .1 (g .0, row .1 (g .1))),
+    )
+
+-- "Edits judge by the amended rule.": the inner number is 16 exactly when an edit is refused by its table, and that table's
+-- I/O APICs are wrong so.
+pub inner-16 :
+    (t : List ℕ) (e : Edit)
+    → (edited t e ≡ Inner 16)
+    ↔ ((editRefusal t e ≡ innerNumber)
+    × (any so (take 11 (tableRules (editedTable t e))) ≡ false)
+    × (WrongAlone (baseEntries (editedTable t e)) ⊎ TwoOfOneId (baseEntries (editedTable t e))))
+unfolding innerRefusal
+inner-16 t e =
+    let answer = inner-exactly t e 16 in
+    let given = given-16 (editedTable t e) in
+    let row = wrong-16 (baseEntries (editedTable t e)) in (
+      λ d. let k = answer .0 d in let g = given .0 (k .1) in (k .0, g .0, row .0 (g .1)),
+      λ h. answer .1 (h .0, given .1 (h .1, row .1 (h .2))),
     )

@@ -4,8 +4,8 @@
 //
 // specs/ states what they speak of beside the definitions of mps: the numbers that each call may give (Numbered), the routes
 // that a table declares (Declared), the links that an answer has climbed (Climbed), the fields that a listing shows and how
-// they are read again (Shown), what a run of edits makes (Runs), PCI slots and their order (Slots), and which number is the
-// lowest free (Renumber). proofs/ has
+// they are read again (Shown), what a run of edits makes (Runs), PCI slots and their order (Slots), which number is the lowest
+// free (Renumber), and which I/O APICs are wrong (IoApics). proofs/ has
 // - demand 1: the numbers of every call (Numbered) and what a refusal leaves (Kept);
 // - demand 2: "given exactly when" for 1 to 18 (Given), that the judge answers that number and what decides among 10 to 12
 //   (Judge); that a listing's lines are those of the table (Listed) and can be read again (Legible); that the routes are those
