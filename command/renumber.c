@@ -3,7 +3,8 @@
 
 #include <string.h>
 
-enum { NUMBERS = 255 };         /* 0 to 254: 255 names all */
+/* 0 to 254, as 255 names all; so many bytes are never too few (19). */
+enum { NUMBERS = 255 };
 
 /* An I/O APIC by its line of the listing, as in "ioapic 2 17 on FEC00000". */
 struct io_apic {
@@ -16,7 +17,10 @@ static bool is_io_apic(const char *line, struct io_apic *apic)
     return sscanf(line, "ioapic %u %*u %3s %8s", &apic->number, apic->state, apic->address) == 3;
 }
 
-/* A line of one; answers whether the number is its own: one that is off has none. */
+/*
+ * A line of one; answers whether the number is its own: one that is off has none.
+ * That one which gets a new number gets another than it had is proved (new-other).
+ */
 static bool told(size_t place, const struct io_apic *apic, const uint8_t *number)
 {
     bool on = strcmp(apic->state, "on") == 0;

@@ -80,7 +80,10 @@ static void check(const char *numbers, size_t count, size_t used)
 
 #define NUMBERS(text) text, sizeof(text) - 1
 
-/* 26 takes no room for so many; every other number is the table's own. */
+/*
+ * At 26 count is that of the enabled I/O APICs, for which the room is tested first;
+ * at the table's own numbers it is 0.
+ */
 static void check_refused(int number, size_t count)
 {
     const struct numbering *n = worked_out();

@@ -1,6 +1,6 @@
 -- Rule 14 but for the local APIC address, and rule 16, as calls over the roll (roll's specs/Calls.antt). 255 is taken on the
--- roll from the start, of both kinds (judge's `from_14`), so neither call tests for it. proofs/Laws.antt has both in the words of the rules
--- (`cpus-wrong`, `ios-wrong`).
+-- roll from the start, of both kinds (judge's `from_14`), so neither call tests for it. proofs/Laws.antt has both in the words of
+-- the rules (`cpus-wrong`, `ios-wrong`).
 use Prim.Native.Nat.{ℕ, _+_}
 use mathlib.Core.Bool.{Bool, not, cond, _||_, _&&_}
 use mathlib.Core.List.{List}

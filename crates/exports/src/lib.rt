@@ -74,7 +74,7 @@ fn found_code(answer: Found) -> u64
     }
 }
 
-// Two values.
+// Two values, by the widths of `pairRow`: of the parts of a table and of new numbers.
 fn pair(first: usize, second: usize) -> u64
     ensures { λ r. ⌜ r ≡ 2 ^ 16 * (first % 2 ^ 16 + 2 ^ 16 * (second % 2 ^ 32)) ⌝ }
 {

@@ -7,11 +7,11 @@ use native.Mathlib.Omega.{arith}
 use lib.ListN.{length}
 use lib.Dec.{ltb}
 use borrow.Author.Tests.{ltb-true, ltb-false}
-use Rattle.mps.specs.Words.{among, twice, below}
+use Rattle.mps.specs.Words.{among, twice}
 use Rattle.laws.proofs.Tests.{whether}
 use Rattle.laws.proofs.Small.{Bytes}
-use Rattle.laws.proofs.Rising.{length-rising, among-rising}
 use Rattle.laws.proofs.Lists.{among-none, among-first, among-rest, among-cases, Within}
+use Rattle.laws.proofs.Counting.{apart-below}
 
 -- A number can be taken out of a list that it is among, and the others stay.
 taken-out : (x : ℕ) (ys : List ℕ) → among x ys ≡ true
@@ -47,4 +47,4 @@ among-byte (y ∷ ys) b x a = among-cases x y ys a (λ q. rw q (b 0)) (among-byt
 
 -- There are no more than 256 different bytes.
 pub bytes-most : (xs : List ℕ) → Bytes xs → twice xs ≡ false → length xs ≤ 256
-bytes-most xs b d = rw (length-rising 256 0) at (apart-most xs (below 256) (λ z a. among-rising 256 0 z (omega arith) (among-byte xs b z a)) d)
+bytes-most xs b d = apart-below 256 xs d (among-byte xs b)

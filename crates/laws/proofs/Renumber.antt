@@ -1,19 +1,19 @@
 -- Laws of what Renumber defines, over any entries and any numbers that are used: nothing is said of a table. Assumes nothing.
-use Prim.Native.Nat.{ℕ, zero, suc, _+_, _<_}
+use Prim.Native.Nat.{ℕ, zero, suc, _+_, _≤_, _<_}
 use mathlib.Core.Path.{_≡_, refl, sym, ap, _∙_}
-use mathlib.Core.Bool.{Bool, true, false, not, _||_, _&&_, or-true, true≢false}
+use mathlib.Core.Bool.{Bool, true, false, not, _||_, _&&_, or-true}
 use mathlib.Core.List.{List, [], _∷_, _++_}
 use native.Mathlib.Omega.{arith}
 use lib.ListN.{length, getD, take}
 use lib.Dec.{eqb, ltb, leb·suc-suc}
-use borrow.Author.Tests.{not-true, lt-ltb, le-ltb}
-use Rattle.mps.specs.Words.{byte, among, twice, none, head, keep, any, each, below}
+use borrow.Author.Tests.{not-true, not-false, lt-ltb, le-ltb}
+use Rattle.mps.specs.Words.{byte, among, twice, none, keep, any, each}
 use Rattle.mps.specs.Layout.{Entry, idOf, everyone}
 use Rattle.mps.specs.Renumber.{free, lowestFree, numbersFrom, findsNone}
 use Rattle.laws.proofs.Tests.{whether, contrary, or-parts}
-use Rattle.laws.proofs.Lists.{among-none, among-first, among-rest, among-cases, among-at, keep-in, keep-out, Within}
+use Rattle.laws.proofs.Lists.{among-none, among-first, among-rest, among-cases, keep-in, keep-out, Within}
 use Rattle.laws.proofs.Rising.{keep-rising}
-use Rattle.laws.proofs.Sieve.{sieve-in, sieve-has, sieve-rises}
+use Rattle.laws.proofs.Sieve.{sieve-first}
 use Rattle.laws.proofs.Counting.{Below, among-append, among-again, among-between, twice-between, apart-others, keep-behind}
 
 -- ---- free
@@ -22,11 +22,7 @@ use Rattle.laws.proofs.Counting.{Below, among-append, among-again, amon
 abbrev pub Same : List ℕ → List ℕ → Type 0
 Same us vs = (n : ℕ) → among n us ≡ among n vs
 
-pub same-more : (x : ℕ) (us vs : List ℕ) → Same us vs → Same (x ∷ us) (x ∷ vs)
-unfolding among
-same-more x us vs h n = rw (h n)
-
-pub free-same : (us vs : List ℕ) → Same us vs → free us ≡ free vs
+free-same : (us vs : List ℕ) → Same us vs → free us ≡ free vs
 unfolding free
 free-same us vs h = keep-rising (λ (n : ℕ). not (among n us)) (λ (n : ℕ). not (among n vs)) everyone 0 (λ n a b. ap not (h n))
 
@@ -36,7 +32,7 @@ unfolding free
 free-count used d b = apart-others everyone used d b
 
 -- Once the lowest is used, the rest is free.
-pub free-rest : (used : List ℕ) (x : ℕ) (xs : List ℕ) → free used ≡ x ∷ xs → free (x ∷ used) ≡ xs
+free-rest : (used : List ℕ) (x : ℕ) (xs : List ℕ) → free used ≡ x ∷ xs → free (x ∷ used) ≡ xs
 unfolding free among
 free-rest used x xs e =
     keep-behind (λ (n : ℕ). not (among n used)) (λ (n : ℕ). not (among n (x ∷ used))) x
@@ -48,50 +44,32 @@ free-rest used x xs e =
 
 -- ---- lowestFree
 
-pub lowest-same : (us vs : List ℕ) → Same us vs → lowestFree us ≡ lowestFree vs
+lowest-same : (us vs : List ℕ) → Same us vs → lowestFree us ≡ lowestFree vs
 unfolding lowestFree
 lowest-same us vs h = rw (free-same us vs h)
 
-pub lowest-first : (used : List ℕ) (x : ℕ) (xs : List ℕ) → free used ≡ x ∷ xs → lowestFree used ≡ x
+lowest-first : (used : List ℕ) (x : ℕ) (xs : List ℕ) → free used ≡ x ∷ xs → lowestFree used ≡ x
 unfolding lowestFree
 lowest-first used x xs e = rw e
 
--- Where some number is free: the lowest is below 255 and not used, and every lower one is.
-module _ (used : List ℕ) (some : none (free used) ≡ false) where
-  lowest-in : among (lowestFree used) (free used) ≡ true
-  unfolding lowestFree
-  lowest-in = first-in (free used) some
-    where
-      first-in : (xs : List ℕ) → none xs ≡ false → among (head everyone xs) xs ≡ true
-      first-in [] e = absurd (true≢false e)
-      first-in (x ∷ xs) e = among-first x x xs refl
+-- Where some number is free, the lowest is below 255 and not used; and every lower one is.
+module _ (used : List ℕ) where
+  first-free :
+      (lowestFree used ≤ everyone)
+      × (lowestFree used < everyone → not (among (lowestFree used) used) ≡ true)
+      × ((m : ℕ) → 0 ≤ m → m < lowestFree used → not (among m used) ≡ false)
+      × (none (free used) ≡ false → lowestFree used < everyone)
+  unfolding lowestFree free
+  first-free = sieve-first (λ (n : ℕ). not (among n used)) everyone 0
 
-  lowest-passes : (lowestFree used < everyone) × (not (among (lowestFree used) used) ≡ true)
-  unfolding free
-  lowest-passes =
-      let r = sieve-in (λ (n : ℕ). not (among n used)) everyone 0 (lowestFree used) lowest-in in
-      (omega (arith, r .1), r .2)
+  pub lowest-below : none (free used) ≡ false → lowestFree used < everyone
+  lowest-below some = first-free .3 some
 
-  pub lowest-below : lowestFree used < everyone
-  lowest-below = lowest-passes .0
-
-  pub lowest-out : among (lowestFree used) used ≡ false
-  lowest-out = not-true (among (lowestFree used) used) (lowest-passes .1)
+  pub lowest-out : none (free used) ≡ false → among (lowestFree used) used ≡ false
+  lowest-out some = not-true (among (lowestFree used) used) (first-free .1 (lowest-below some))
 
   pub lowest-under : (m : ℕ) → m < lowestFree used → among m used ≡ true
-  unfolding lowestFree free
-  lowest-under m h =
-      whether (among m used) (λ e. e) (λ e.
-      let p : ℕ → Bool = λ (n : ℕ). not (among n used) in
-      let there = sieve-has p everyone 0 m (omega arith) (omega (arith, h, lowest-below)) (rw e) in
-      let at = among-at m (keep p (below everyone)) there in
-      absurd (no-lower (keep p (below everyone)) (sieve-rises p everyone 0) (at .0) (at .1) (rw (at .2) h)))
-    where
-      no-lower : (xs : List ℕ) → ((i j : ℕ) → i < j → j < length xs → byte xs i < byte xs j)
-          → (i : ℕ) → i < length xs → byte xs i < head everyone xs → ⊥
-      no-lower [] r i h l = omega arith
-      no-lower (x ∷ xs) r zero h l = omega arith
-      no-lower (x ∷ xs) r (suc i) h l = omega (arith, r 0 (suc i) (omega arith) h, l)
+  lowest-under m h = not-false (among m used) (first-free .2 m (omega arith) h)
 
 -- ---- numbersFrom and findsNone
 
@@ -136,24 +114,6 @@ length-numbers shared used (apic ∷ apics) =
     whether (shared apic)
     (λ e. rw (numbers-new shared used apic apics e) (ap suc (length-numbers shared (lowestFree used ∷ used) apics)))
     (λ e. rw (numbers-own shared used apic apics e) (ap suc (length-numbers shared used apics)))
-
--- It is by their numbers that used ones count, not by their order.
-pub numbers-same : (shared : Entry → Bool) (us vs : List ℕ) → Same us vs → (apics : List Entry)
-    → (numbersFrom shared us apics ≡ numbersFrom shared vs apics) × (findsNone shared us apics ≡ findsNone shared vs apics)
-unfolding numbersFrom findsNone
-numbers-same shared us vs h [] = (refl, refl)
-numbers-same shared us vs h (apic ∷ apics) =
-    let x = lowestFree us in
-    let low = lowest-same us vs h in
-    whether (shared apic)
-    (λ e. let r = numbers-same shared (x ∷ us) (x ∷ vs) (same-more x us vs h) apics in (
-      rw (numbers-new shared us apic apics e, numbers-new shared vs apic apics e, ← low, r .0),
-      rw (finds-new shared us apic apics e, finds-new shared vs apic apics e, ← low, r .1, free-same us vs h),
-    ))
-    (λ e. let r = numbers-same shared us vs h apics in (
-      rw (numbers-own shared us apic apics e, numbers-own shared vs apic apics e, r .0),
-      rw (finds-own shared us apic apics e, finds-own shared vs apic apics e, r .1),
-    ))
 
 -- One finds none exactly when those that need a number are more than the free ones.
 finds-step : (shared : Entry → Bool) (used : List ℕ) (apics : List Entry) (m : ℕ)

@@ -1,13 +1,13 @@
 -- The numbers of a range that pass a test: which they are, that they rise, and that none stands twice. Assumes nothing.
 use Prim.Native.Nat.{ℕ, zero, suc, _+_, _≤_, _<_}
 use mathlib.Core.Path.{_≡_, refl}
-use mathlib.Core.Bool.{Bool, true, false}
+use mathlib.Core.Bool.{Bool, true, false, true≢false}
 use mathlib.Core.List.{List, [], _∷_}
 use native.Mathlib.Omega.{arith}
 use lib.ListN.{length}
 use lib.Dec.{eqb}
 use borrow.Author.Tests.{eqb-true, eqb-false}
-use Rattle.mps.specs.Words.{byte, among, twice, keep, rising}
+use Rattle.mps.specs.Words.{byte, among, twice, none, head, keep, rising}
 use Rattle.laws.proofs.Tests.{whether}
 use Rattle.laws.proofs.Lists.{among-none, among-first, among-rest, among-cases, at-among, among-at, keep-in, keep-out}
 
@@ -70,3 +70,22 @@ module _ (p : ℕ → Bool) where
       whether (p k)
       (λ t. rw (keep-in p k rest t) (rises-more k (keep p rest) (λ y a. sieve-in n (suc k) y a .0) (sieve-rises n (suc k))))
       (λ f. rw (keep-out p k rest f) (sieve-rises n (suc k)))
+
+  -- The first that passes, k + n where none does: it passes, none before it does, and where some pass it is below k + n.
+  pub sieve-first :
+      (n k : ℕ) → let x = head (k + n) (keep p (rising n k)) in
+      (x ≤ k + n) × (x < k + n → p x ≡ true) × ((y : ℕ) → k ≤ y → y < x → p y ≡ false) × (none (keep p (rising n k)) ≡ false → x < k + n)
+  unfolding keep rising
+  sieve-first zero k =
+      (omega arith, λ h. absurd (omega (arith, h)), λ y a h. absurd (omega (arith, a, h)), λ e. absurd (true≢false e))
+  sieve-first (suc n) k =
+      whether (p k)
+      (λ t. rw (keep-in p k (rising n (suc k)) t) (omega arith, λ h. t, λ y a h. absurd (omega (arith, a, h)), λ e. omega arith))
+      (λ f. let end : k + suc n ≡ suc k + n = omega arith in
+      let rest = sieve-first n (suc k) in
+      rw (keep-out p k (rising n (suc k)) f, end) (
+        rest .0,
+        rest .1,
+        λ y a h. whether (eqb y k) (λ e. rw (eqb-true y k e) f) (λ e. rest .2 y (omega (arith, a, eqb-false y k e)) h),
+        rest .3,
+      ))
