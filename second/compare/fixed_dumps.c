@@ -101,6 +101,19 @@ static void empty_regions(struct rng *r)
     check(r, "two empty kind 1", 1, NULL);
 }
 
+/* An empty region of each kind beside the board's, which is of kind 3. */
+static void kinds(struct rng *r)
+{
+    for (int kind = 0; kind < 256; kind += kind < 8 || kind > 250 ? 1 : 9) {
+        bool sound = kind == 1 || kind == 2 || kind == 4;
+
+        board_in(3, 0xF0000);
+        add_piece(&d, (uint8_t)kind, 0x9FC00);
+        check(r, "a region of each kind", sound ? 0 : 1,
+              sound ? board_listing : NULL);
+    }
+}
+
 static void boundaries(struct rng *r)
 {
     for (uint8_t kind = 1; kind <= 2; kind++) {
@@ -214,6 +227,7 @@ void fixed_dumps(struct rng *r)
 {
     the_board(r);
     empty_regions(r);
+    kinds(r);
     boundaries(r);
     wrapped_lengths(r);
     search_order(r);
