@@ -1,9 +1,9 @@
 -- The numbers of an accepted table's enabled APICs: those that are held are apart and below 255, and whether one that needs a new
--- number finds none is a matter of how many there are. Assumes nothing.
+-- number finds none is a matter of how many there are; where each finds one, so is how many are used. Assumes nothing.
 use Prim.Native.Nat.{ℕ, _+_, _≤_}
 use mathlib.Core.Path.{_≡_, sym, _∙_}
 use mathlib.Core.Bool.{Bool, true, false, not, false≢true}
-use mathlib.Core.List.{List}
+use mathlib.Core.List.{List, _++_}
 use native.Mathlib.Omega.{arith}
 use lib.ListN.{length, length-append}
 use lib.Dec.{ltb}
@@ -12,13 +12,13 @@ use Rattle.mps.specs.Words.{among, twice, keep, each}
 use Rattle.mps.specs.Layout.{Entry, ofType, processorType, ioApicType, everyone, enabled, idOf, baseEntries}
 use Rattle.mps.specs.Rules.{enabledOf, enabledIds}
 use Rattle.mps.specs.Judge.{tableRefusal}
-use Rattle.mps.specs.Renumber.{shares, keptIds, free, heldIds, newNumbers, noneFree, newNumbersOf}
+use Rattle.mps.specs.Renumber.{shares, keptIds, free, heldIds, newNumbers, noneFree, usedNumbers, bitsSet, newNumbersOf}
 use Rattle.laws.proofs.Tests.{either, same-test}
 use Rattle.laws.proofs.Lists.{length-each, keep-each}
 use Rattle.laws.proofs.Small.{Bytes, below-each, small-keep, small-base}
 use Rattle.laws.proofs.Pigeons.{among-byte}
-use Rattle.laws.proofs.Counting.{Below, keep-both, among-append, among-kept, apart-kept, apart-append, apart-below}
-use Rattle.laws.proofs.Renumber.{free-count, length-numbers, finds-count}
+use Rattle.laws.proofs.Counting.{Below, keep-both, among-append, among-kept, apart-kept, apart-append, apart-count, apart-below}
+use Rattle.laws.proofs.Renumber.{keptOf, free-count, length-numbers, finds-count, numbers-below, numbers-apart}
 use Rattle.accepted.proofs.Obeyed.{obeyed}
 
 -- ---- The IDs of the enabled ones
@@ -108,3 +108,38 @@ module _ (t : List ℕ) (a : tableRefusal t ≡ 0) where
         ∙ same-test (ltb others sharing) (ltb everyone all)
         (λ h. lt-ltb everyone all (omega (arith, ltb-true others sharing h, held, counted, both)))
         (λ h. lt-ltb others sharing (omega (arith, ltb-true everyone all h, held, counted, both)))
+
+  -- ---- Where each finds one
+
+  module _ (some : noneFree (baseEntries t) ≡ false) where
+    pub used-apart : twice (usedNumbers (baseEntries t)) ≡ false
+    unfolding usedNumbers newNumbers noneFree heldIds keptIds keptOf
+    used-apart =
+        let es = baseEntries t in
+        numbers-apart (shares es) (enabledIds processorType es) (heldIds es) (enabledOf ioApicType es) some (λ z h. h) held-apart
+
+    pub new-below : Bytes t → Below everyone (newNumbersOf t)
+    unfolding newNumbersOf newNumbers noneFree keptIds keptOf
+    new-below b =
+        let es = baseEntries t in
+        numbers-below (shares es) (heldIds es) (enabledOf ioApicType es) some (kept-below b)
+
+    -- As many numbers are used as there are enabled processors and enabled I/O APICs.
+    pub used-count : Bytes t
+        → bitsSet (usedNumbers (baseEntries t))
+        ≡ length (enabledIds processorType (baseEntries t)) + length (enabledOf ioApicType (baseEntries t))
+    unfolding bitsSet usedNumbers newNumbersOf newNumbers
+    used-count b =
+        let es = baseEntries t in
+        let ids = enabledIds processorType es in
+        let new = newNumbers es in
+        let inside : Below 256 (ids ++ new) =
+        λ z h. either (among z ids) (among z new) (sym (among-append z ids new) ∙ h)
+        (λ c. omega (arith, processors-below b z c))
+        (λ c. omega (arith, new-below b z c)) in
+        omega (
+          arith,
+          apart-count 256 (ids ++ new) used-apart inside,
+          length-append ids new,
+          length-numbers (shares es) (heldIds es) (enabledOf ioApicType es),
+        )

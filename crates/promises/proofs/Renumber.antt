@@ -7,7 +7,7 @@ use mathlib.Core.Bool.{Bool, true, false, _||_, _&&_, and-false, or-comm, false�
 use mathlib.Core.Logic.{_↔_}
 use mathlib.Core.List.{List, [], _∷_, _++_}
 use native.Mathlib.Omega.{arith}
-use lib.ListN.{length, getD, take, drop, length-append, List·getD-append}
+use lib.ListN.{length, getD, take, drop, List·getD-append}
 use lib.Seq.{take-append-le}
 use lib.Dec.{ltb}
 use borrow.Author.Tests.{ltb-true, ltb-false, lt-ltb, le-ltb}
@@ -20,15 +20,15 @@ use Rattle.mps.specs.Rooms.{tooSmall, roomRules}
 use Rattle.mps.specs.Renumber.{shares, keptIds, heldIds, newNumbers, noneFree, usedNumbers, bitsSet}
 use Rattle.mps.specs.Renumber.{newNumbersOf, renumberRules, renumberRefusal, renumbered, renumberLeft}
 use Rattle.mps.specs.declared.Renumbered.the-variants.{Given}
-use Rattle.laws.proofs.Tests.{whether, either, or-parts}
+use Rattle.laws.proofs.Tests.{whether, or-parts}
 use Rattle.laws.proofs.Lists.{any-append, at-among, length-each, keep-keep, keep-agree}
 use Rattle.laws.proofs.Refusals.{so, refusal-none, given-before, given-exactly}
 use Rattle.laws.proofs.Lent.{left-put}
 use Rattle.laws.proofs.Small.{Bytes}
-use Rattle.laws.proofs.Counting.{Below, among-append, apart-parts, apart-places, apart-count}
-use Rattle.laws.proofs.Renumber.{keptOf, length-numbers, numbers-all-own, numbers-keep, numbers-below, numbers-apart, numbers-lowest}
+use Rattle.laws.proofs.Counting.{among-append, apart-parts, apart-places}
+use Rattle.laws.proofs.Renumber.{keptOf, length-numbers, numbers-all-own, numbers-keep, numbers-lowest}
 use Rattle.laws.proofs.Renumber.{lowest-below, lowest-out, lowest-under}
-use Rattle.accepted.proofs.Numbering.{processors-below, kept-below, held-apart, new-most, none-free}
+use Rattle.accepted.proofs.Numbering.{new-most, none-free, used-apart as all-apart, new-below, used-count}
 use Rattle.promises.specs.Renumber.{apicAt, held, LowestFree}
 use Rattle.promises.proofs.Answered.{renumbered-given}
 use Rattle.promises.proofs.Given.{Exactly, given-none}
@@ -209,11 +209,7 @@ module _ (t room : List ℕ) {n bits : ℕ} (r : renumbered t room ≡ Given n b
 
   -- No number is used twice: not by two enabled processors, by two enabled I/O APICs, or by one of each.
   pub used-apart : twice (usedNumbers (baseEntries t)) ≡ false
-  unfolding usedNumbers newNumbers noneFree heldIds keptIds keptOf
-  used-apart =
-      let es = baseEntries t in
-      numbers-apart (shares es) (enabledIds processorType es) (heldIds es) (enabledOf ioApicType es) found
-      (λ z h. h) (held-apart t accepted)
+  used-apart = all-apart t accepted found
 
   -- So no two have one number,
   pub new-apart : (i j : ℕ) → i < j → j < n → byte (renumberLeft t room) i ≡ byte (renumberLeft t room) j → ⊥
@@ -268,28 +264,12 @@ module _ (t room : List ℕ) {n bits : ℕ} (r : renumbered t room ≡ Given n b
       })
 
   -- "from 0 to 254", kept or new: of a table of bytes.
-  used-below : Bytes t → Below everyone (newNumbersOf t)
-  unfolding newNumbersOf newNumbers noneFree keptIds keptOf
-  used-below b =
-      let es = baseEntries t in
-      numbers-below (shares es) (heldIds es) (enabledOf ioApicType es) found (kept-below t accepted b)
-
   pub new-low : Bytes t → (k : ℕ) → k < n → byte (renumberLeft t room) k < everyone
   new-low b k h =
-      rw (number-at k h) (used-below b (byte (newNumbersOf t) k) (at-among (newNumbersOf t) k (omega (arith, h, told .1))))
+      rw (number-at k h) (new-below t accepted found b (byte (newNumbersOf t) k) (at-among (newNumbersOf t) k (omega (arith, h, told .1))))
 
   -- "the answer says how many bits are set at the end": as many as there are enabled processors and enabled I/O APICs.
   pub bits-count : Bytes t
       → bits ≡ length (enabledOf processorType (baseEntries t)) + length (enabledOf ioApicType (baseEntries t))
-  unfolding bitsSet usedNumbers enabledIds newNumbersOf
-  bits-count b =
-      let es = baseEntries t in
-      let cpus = enabledOf processorType es in
-      let ids = each idOf cpus in
-      let all = ids ++ newNumbers es in
-      let inside : Below 256 all =
-      λ z h. either (among z ids) (among z (newNumbers es)) (sym (among-append z ids (newNumbers es)) ∙ h)
-      (λ c. omega (arith, processors-below t accepted b z c))
-      (λ c. omega (arith, used-below b z c)) in
-      let set = apart-count 256 all used-apart inside in
-      omega (arith, told .2, set, length-append ids (newNumbers es), length-each idOf cpus, new-length t)
+  unfolding enabledIds
+  bits-count b = told .2 ∙ used-count t accepted found b ∙ rw (length-each idOf (enabledOf processorType (baseEntries t)))

@@ -1,14 +1,14 @@
 -- The ways out: what the code has found there, and the answer. Assumes nothing.
 use Prim.Native.Nat.{ℕ, zero, suc, _+_, _≤_, _<_}
 use mathlib.Core.Path.{_≡_, refl, sym, ap, _∙_}
-use mathlib.Core.Bool.{Bool, true, false, not, _||_, or-true, true≢false}
+use mathlib.Core.Bool.{Bool, true, false, not, true≢false}
 use mathlib.Core.List.{List, [], _∷_, _++_}
 use native.Mathlib.Omega.{arith}
 use lib.Dec.{ltb}
 use lib.ListN.{length, replicate}
 use lib.Seq.{sets}
 use borrow.Author.Tests.{lt-ltb, le-ltb, ne-eqb}
-use Rattle.mps.specs.Words.{among, each, keep, first, part, below}
+use Rattle.mps.specs.Words.{among, each, keep, first, part}
 use Rattle.mps.specs.Refusals.{_when_, refusal, roomNumber}
 use Rattle.mps.specs.Layout.{Entry, ofType, headerSize, processorSize, entrySize, processorType, ioApicType, idOf, enabled, everyone, baseEntries}
 use Rattle.mps.specs.Rules.{enabledOf, enabledIds}
@@ -22,23 +22,22 @@ use Rattle.mps.specs.declared.Examined.{Examined}
 use Rattle.mps.specs.declared.Examined.the-variants.{Refused as Examined·Refused}
 use Rattle.mps.specs.declared.Renumbered.{Renumbered}
 use Rattle.mps.specs.declared.Renumbered.the-variants.{Given, Refused}
-use Rattle.laws.proofs.Lists.{length-each, Within}
+use Rattle.laws.proofs.Lists.{length-each}
 use Rattle.laws.proofs.Tests.{whether}
 use Rattle.laws.proofs.Refusals.{number, first-some, refusal-append}
 use Rattle.laws.proofs.Lent.{left-kept, left-put}
 use Rattle.laws.proofs.Stores.{sets-at-start}
 use Rattle.laws.proofs.Small.{Bytes, Small, small-base, small-keep}
 use Rattle.laws.proofs.Counting.{Below, among-append, apart-below}
-use Rattle.laws.proofs.Renumber.{Same, keptOf, length-numbers, numbers-below}
+use Rattle.laws.proofs.Renumber.{Same, length-numbers}
 use Rattle.apics.specs.Enabled.{enabledIn}
-use Rattle.sets.specs.Sets.{holds, putAll, bitsOf, members}
-use Rattle.sets.proofs.Laws.{members-by}
+use Rattle.sets.specs.Sets.{holds, putAll, members}
 use Rattle.accepted.proofs.Obeyed.{obeyed}
-use Rattle.accepted.proofs.Numbering.{kept-ids, processors-below, ioapics-below, kept-below, held-below, none-free}
+use Rattle.accepted.proofs.Numbering.{kept-ids, processors-below, ioapics-below, held-below, none-free, new-below, used-count}
 use Rattle.judge.specs.Placed.{Placed}
 use Rattle.judge.proofs.Laws.{refused-number, refused-some, behind-table, placed-processors, placed-ioapics}
 use Rattle.renumbering.specs.Giving.{numbersIn}
-use Rattle.renumbering.proofs.Laws.{Has, has-none, has-all, has-same, numbers-are, kept-given}
+use Rattle.renumbering.proofs.Laws.{Has, has-none, has-all, has-count, Both, both-has, numbers-are}
 
 -- ---- The number, and the answer
 
@@ -113,20 +112,6 @@ held-same es z =
     rw (among-append z own all, among-append z own (keptIds es), kept-ids es)
     (whether (among z own) (λ t. rw t) (λ f. rw f (among-keep (λ (n : ℕ). not (among n own)) z all (rw f))))
 
--- ---- What is used at the end: those that are kept are given
-
-used-same : (es : List Entry) (z : ℕ) → among z (heldIds es ++ newNumbers es) ≡ among z (usedNumbers es)
-unfolding heldIds usedNumbers newNumbers keptIds keptOf
-used-same es z =
-    let own = enabledIds processorType es in
-    rw (among-append z (own ++ keptIds es) (newNumbers es), among-append z own (keptIds es), among-append z own (newNumbers es))
-    (once (among z own) (among z (keptIds es)) (among z (newNumbers es)) (kept-given (shares es) (heldIds es) (enabledOf ioApicType es) z))
-  where
-    once : (a b c : Bool) → (b ≡ true → c ≡ true) → ((a || b) || c) ≡ (a || c)
-    once true b c f = refl
-    once false true c f = sym (f refl)
-    once false false c f = refl
-
 -- ---- From what the passes over an accepted table have found
 
 module _ (t : List ℕ) (p : Sections) (a : tableRefusal t ≡ 0) (placed : Placed t p) (room : List ℕ) where
@@ -140,10 +125,10 @@ module _ (t : List ℕ) (p : Sections) (a : tableRefusal t ≡ 0) (placed : Plac
   abbrev apicRows : List ℕ
   apicRows = part (p .ioapics) (p .interrupts) t
 
-  -- How many are enabled, and the sets of the processors' IDs and of those that are held.
-  module _ {n m : ℕ} (en : n ≡ length (enabledIn processorSize cpuRows)) (em : m ≡ length (enabledIn entrySize apicRows))
-      {cpus held : List ℕ} (ec : cpus ≡ putAll (replicate 4 0) (enabledIn processorSize cpuRows))
-      (eh : held ≡ putAll cpus (enabledIn entrySize apicRows)) where
+  -- The sets of the processors' IDs and of the I/O APICs', and how many are in the one and enabled of the others.
+  module _ {cpus own : List ℕ} (ec : cpus ≡ putAll (replicate 4 0) (enabledIn processorSize cpuRows))
+      (eo : own ≡ putAll (replicate 4 0) (enabledIn entrySize apicRows))
+      {n m : ℕ} (en : n ≡ length (members cpus)) (em : m ≡ length (enabledIn entrySize apicRows)) where
     small-apics : Small (enabledOf ioApicType base)
     unfolding enabledOf
     small-apics = small-keep enabled (small-keep (ofType ioApicType) (small-base t (placed .bytes)))
@@ -152,11 +137,12 @@ module _ (t : List ℕ) (p : Sections) (a : tableRefusal t ≡ 0) (placed : Plac
     unfolding enabledIds
     ids = sym (placed-ioapics t p placed)
 
+    apics-is : m ≡ length (enabledOf ioApicType base)
+    apics-is = em ∙ ap length ids ∙ length-each idOf (enabledOf ioApicType base)
+
     count-is : length (newNumbersOf t) ≡ m
     unfolding newNumbersOf newNumbers
-    count-is =
-        length-numbers (shares base) (heldIds base) (enabledOf ioApicType base)
-        ∙ sym (length-each idOf (enabledOf ioApicType base)) ∙ sym (ap length ids) ∙ sym em
+    count-is = length-numbers (shares base) (heldIds base) (enabledOf ioApicType base) ∙ sym apics-is
 
     cpus-has : Has cpus (enabledIds processorType base)
     cpus-has =
@@ -167,15 +153,18 @@ module _ (t : List ℕ) (p : Sections) (a : tableRefusal t ≡ 0) (placed : Plac
     unfolding shares
     shared-is apic b = cpus-has .same (idOf apic) (b 1)
 
-    held-has : Has held (heldIds base)
-    held-has =
-        has-same held (enabledIds processorType base ++ enabledIds ioApicType base) (heldIds base)
-        (rw (eh, placed-ioapics t p placed) (has-all cpus (enabledIds processorType base) cpus-has (enabledIn entrySize apicRows)))
-        (held-same base)
+    own-has : Has own (enabledIds ioApicType base)
+    own-has = rw (eo, placed-ioapics t p placed) (has-all (replicate 4 0) [] has-none (enabledIn entrySize apicRows))
+
+    held-has : Both own cpus (heldIds base)
+    held-has = both-has own cpus (enabledIds ioApicType base) (enabledIds processorType base) (heldIds base) own-has cpus-has (held-same base)
 
     -- 26 by counting: both counts are of numbers below 255 that are apart.
     enabled-is : n ≡ length (enabledIds processorType base)
-    enabled-is = en ∙ sym (ap length (placed-processors t p placed))
+    enabled-is =
+        en
+        ∙ has-count cpus (enabledIds processorType base) cpus-has (obeyed t a .processors)
+        (λ z q. omega (arith, processors-below t a (placed .bytes) z q))
 
     pub few : n + m ≤ 510
     few =
@@ -191,19 +180,11 @@ module _ (t : List ℕ) (p : Sections) (a : tableRefusal t ≡ 0) (placed : Plac
         )
 
     none-by : noneFree base ≡ ltb everyone (n + m)
-    none-by =
-        none-free t a (placed .bytes)
-        ∙ rw (enabled-is, em, ap length ids, length-each idOf (enabledOf ioApicType base))
+    none-by = none-free t a (placed .bytes) ∙ rw (enabled-is, apics-is)
 
-    -- No number that is held is 255, and those that are kept are held.
+    -- No number that is held is 255.
     none-255 : among everyone (heldIds base) ≡ false
     none-255 = whether (among everyone (heldIds base)) (λ e. absurd (omega (arith, held-below t a (placed .bytes) everyone e))) (λ e. e)
-
-    kept-held : Within (keptOf (shares base) (enabledOf ioApicType base)) (heldIds base)
-    unfolding heldIds keptIds keptOf
-    kept-held z q =
-        let own = enabledIds processorType base in
-        rw (among-append z own (keptIds base), q) (or-true (among z own))
 
     pub room-short : length room < m → Answers t room (Refused roomNumber) room
     unfolding tooSmall
@@ -222,34 +203,18 @@ module _ (t : List ℕ) (p : Sections) (a : tableRefusal t ≡ 0) (placed : Plac
         some = none-by ∙ le-ltb everyone (n + m) k
 
         -- What is given.
-        numbers-is : numbersIn cpus held (enabledIn entrySize apicRows) ≡ newNumbersOf t
+        numbers-is : numbersIn cpus own (enabledIn entrySize apicRows) ≡ newNumbersOf t
         unfolding newNumbersOf newNumbers noneFree
         numbers-is =
-            ap (numbersIn cpus held) ids
-            ∙ numbers-are (shares base) cpus shared-is small-apics held (heldIds base) held-has none-255 kept-held some
+            ap (numbersIn cpus own) ids
+            ∙ numbers-are (shares base) cpus shared-is small-apics own (heldIds base) held-has none-255 some
 
         pub give-room :
-            (length (enabledIn entrySize apicRows) ≤ length room) × Below everyone (numbersIn cpus held (enabledIn entrySize apicRows))
-        unfolding newNumbersOf newNumbers noneFree keptIds keptOf
-        give-room =
-            let kept = kept-below t a (placed .bytes) in
-            (rw (← em) h, rw numbers-is (numbers-below (shares base) (heldIds base) (enabledOf ioApicType base) some kept))
+            (length (enabledIn entrySize apicRows) ≤ length room) × Below everyone (numbersIn cpus own (enabledIn entrySize apicRows))
+        give-room = (rw (← em) h, rw numbers-is (new-below t a some (placed .bytes)))
 
-        -- How many are used then.
-        used-is :
-            {used : List ℕ} → used ≡ putAll held (numbersIn cpus held (enabledIn entrySize apicRows))
-            → length (members used) ≡ bitsSet (usedNumbers base)
-        unfolding newNumbersOf bitsSet
-        used-is {used} e =
-            let has : Has used (heldIds base ++ newNumbers base) =
-            rw (e, numbers-is) (has-all held (heldIds base) held-has (newNumbers base)) in
-            let bits : bitsOf used ≡ 256 = omega (arith, has .size) in
-            let p : ℕ → Bool = λ (y : ℕ). among y (usedNumbers base) in
-            ap length
-            (members-by p used (λ y l. has .same y (omega (arith, l, has .size)) ∙ used-same base y)
-            ∙ ap (λ (b : ℕ). keep p (below b)) bits)
-
-        pub all-given :
-            {used u : List ℕ} {q : ℕ} → u ≡ sets room 0 (numbersIn cpus held (enabledIn entrySize apicRows))
-            → used ≡ putAll held (numbersIn cpus held (enabledIn entrySize apicRows)) → q ≡ length (members used) → Answers t room (Given m q) u
-        all-given e f g = given t room a fits some (sym count-is) (g ∙ used-is f) (rw count-is h) (rw numbers-is at e)
+        -- Every number that is used then is a processor's or given.
+        pub all-given : {u : List ℕ} → u ≡ sets room 0 (numbersIn cpus own (enabledIn entrySize apicRows)) → Answers t room (Given m (n + m)) u
+        all-given e =
+            given t room a fits some (sym count-is) (rw (enabled-is, apics-is) (sym (used-count t a some (placed .bytes))))
+            (rw count-is h) (rw numbers-is at e)

@@ -4,9 +4,10 @@
 // stand in mps's specs/Renumber.antt; how the code comes to the numbers, in specs/Giving.antt. A refusal leaves the room as it
 // was, 26 too: whether a number is free for each that needs one is known before the first is given, by counting.
 //
-// The used numbers are a set of 256 bits. One pass over the processors puts theirs in, one over the I/O APICs theirs, since one
-// that shares its ID has it in already and every other keeps it; one more gives the numbers. So the cost is that of the table,
-// and no number is looked for: the lowest that is free is found by the words of the set.
+// The used numbers are two sets of 256 bits, the processors' and the I/O APICs'. One pass puts in those of the first, one those
+// of the second: one that shares its ID has a processor's, which is used too, and every other keeps it. One more gives the
+// numbers. So the cost is that of the table, and no number is looked for: the lowest that is free is found by the words of both
+// sets. One set would have to be a copy of the other, which waits for all that was put in.
 use mps::Examined;
 use mps::Renumbered;
 use mps::Sections;
@@ -22,7 +23,7 @@ ghost use Rattle.laws.proofs.Counting.{Below};
 ghost use Rattle.apics.specs.Enabled.{enabledIn};
 ghost use Rattle.sets.specs.Sets.{putAll};
 ghost use Rattle.judge.specs.Placed.{Placed};
-ghost use Rattle.renumbering.specs.Giving.{numberIn, numbersIn};
+ghost use Rattle.renumbering.specs.Giving.{numberIn, ownWith, numbersIn};
 
 // A byte for each enabled I/O APIC stands in the room from its first byte on, in table order.
 pub fn renumber(t: &[u8], out: &mut [u8]) -> Renumbered
@@ -36,8 +37,9 @@ pub fn renumber(t: &[u8], out: &mut [u8]) -> Renumbered
     }
 }
 
-// The same with the places of the table. No two enabled APICs of one kind have the same ID, so those that are used at the
-// end are as many as the enabled ones: 26 where these are more than there are numbers.
+// The same with the places of the table. No two enabled APICs of one kind have the same ID, so the numbers that are used at
+// the end are as many as the enabled ones: 26 where these are more than there are numbers. The ones of the processors' set are
+// counted before the I/O APICs are gone over, since the pass over these does not wait for it.
 fn of_table(t: &[u8], p: Sections, out: &mut [u8]) -> Renumbered
     requires { ⌜ (tableRefusal (now t) ≡ 0) × (Placed (now t) p) ⌝ }
     ensures { λ r. ⌜ r ≡ renumbered (now (t .entry)) (now (out .entry)) ⌝ }
@@ -47,24 +49,25 @@ fn of_table(t: &[u8], p: Sections, out: &mut [u8]) -> Renumbered
     let ioapics = p.ioapics;
     let interrupts = p.interrupts;
     let mut processors: [u64; 4] = [0; 4];
-    let enabled = hold(
+    hold(
         &mut processors,
         &t[layout::HEADER_SIZE..buses],
         layout::PROCESSOR_SIZE,
     );
+    let held = sets::count(&processors);
     let apics = &t[ioapics..interrupts];
-    let mut used = processors;
-    let count = hold(&mut used, apics, layout::ENTRY_SIZE);
+    let mut own: [u64; 4] = [0; 4];
+    let count = hold(&mut own, apics, layout::ENTRY_SIZE);
     if out.len() < count {
         return Renumbered::Refused(19);
     }
-    if (layout::EVERYONE as usize) < enabled + count {
+    if (layout::EVERYONE as usize) < held + count {
         return Renumbered::Refused(26);
     }
-    give(out, &mut used, &processors, apics);
+    give(out, &mut own, &processors, apics);
     Renumbered::Given {
         count: count,
-        used: sets::count(&used),
+        used: held + count,
     }
 }
 
@@ -86,32 +89,32 @@ fn hold(set: &mut [u64; 4], s: &[u8], size: usize) -> usize
     count
 }
 
-// The number of an enabled I/O APIC with this ID.
-fn number(used: &[u64; 4], processors: &[u64; 4], id: u8) -> u8
-    requires { ⌜ numberIn (now processors) (now used) id < 256 ⌝ }
-    ensures { λ r. ⌜ r ≡ numberIn (now (processors .entry)) (now (used .entry)) id ⌝ }
+// The number of an enabled I/O APIC with this ID. A new one is put in; its own is in already.
+fn number(own: &mut [u64; 4], processors: &[u64; 4], id: u8) -> u8
+    requires { ⌜ numberIn (now processors) (now own) id < 256 ⌝ }
+    ensures { λ r. ⌜ r ≡ numberIn (now (processors .entry)) (now (own .entry)) id ⌝ }
+    ensures { λ _. ⌜ now (own .exit) ≡ ownWith (now (processors .entry)) (now (own .entry)) id ⌝ }
 {
     if sets::contains(processors, id) {
-        return sets::lowest(used) as u8;
+        let n = sets::lowest(own, processors) as u8;
+        sets::put(own, n);
+        return n;
     }
     id
 }
 
-// Writes the number of each enabled I/O APIC. One that keeps its own is put in once more: that costs less than to ask.
-fn give(out: &mut [u8], used: &mut [u64; 4], processors: &[u64; 4], s: &[u8])
+// Writes the number of each enabled I/O APIC. What is in their set then is not asked for.
+fn give(out: &mut [u8], own: &mut [u64; 4], processors: &[u64; 4], s: &[u8])
     requires { ⌜ length (enabledIn entrySize (now s)) ≤ length (now out) ⌝ }
-    requires { ⌜ Below everyone (numbersIn (now processors) (now used) (enabledIn entrySize (now s))) ⌝ }
-    ensures { λ _. ⌜ now (out .exit) ≡ sets (now (out .entry)) 0 (numbersIn (now (processors .entry)) (now (used .entry)) (enabledIn entrySize (now (s .entry)))) ⌝ }
-    ensures { λ _. ⌜ now (used .exit) ≡ putAll (now (used .entry)) (numbersIn (now (processors .entry)) (now (used .entry)) (enabledIn entrySize (now (s .entry)))) ⌝ }
+    requires { ⌜ Below everyone (numbersIn (now processors) (now own) (enabledIn entrySize (now s))) ⌝ }
+    ensures { λ _. ⌜ now (out .exit) ≡ sets (now (out .entry)) 0 (numbersIn (now (processors .entry)) (now (own .entry)) (enabledIn entrySize (now (s .entry)))) ⌝ }
 {
     let mut place = 0;
     let mut at = 0;
     while layout::ENTRY_SIZE <= s.len() - at {
         let flags = s[at + layout::APIC_FLAGS];
         if flags % 2 == 1 {
-            let n = number(used, processors, s[at + layout::ENTRY_ID]);
-            sets::put(used, n);
-            out[place] = n;
+            out[place] = number(own, processors, s[at + layout::ENTRY_ID]);
             place += 1;
         }
         at += layout::ENTRY_SIZE;

@@ -1,5 +1,5 @@
--- Laws of the sets, of any number of words: what is in one after more was put in, how many that is, and the lowest that is
--- not. Crates above need these and not how a set is stored. Assumes nothing.
+-- Laws of the sets, of any number of words: what is in one after more was put in, how many that is, and the lowest that is in
+-- neither of two. Crates above need these and not how a set is stored. Assumes nothing.
 use Prim.Native.Nat.{ℕ, zero, suc, _+_, _-_, _/_, _%_, _^_, _≤_, _<_}
 use mathlib.Core.Path.{_≡_, refl, sym, ap, _∙_}
 use mathlib.Core.Bool.{Bool, true, false, not, _||_, or-assoc, or-comm}
@@ -101,7 +101,7 @@ members-all words m h =
     (keep-rising _ _ (m - b) (b + 0) (λ n a k. holds-past words n (omega (arith, a))) ∙ keep-nothing left)
     ∙ append-nil (keep (holds words) (below b))
 
--- ---- The lowest that is not in a set
+-- ---- The lowest that is in neither of two sets
 
 -- The first number from k on that passes a test, k + n where none below that does: it passes, and none before it.
 first-passes :
@@ -117,32 +117,38 @@ first-passes p (suc n) k =
     rw (keep-out p k (rising n (suc k)) f, end)
     (rest .0, rest .1, λ y a h. whether (eqb y k) (λ e. rw (eqb-true y k e) f) (λ e. rest .2 y (omega (arith, a, eqb-false y k e)) h)))
 
--- It is not in, and every lower one is.
-module _ (words : List ℕ) where
-  first-out : (lowestOut words ≤ bitsOf words) × (lowestOut words < bitsOf words → not (holds words (lowestOut words)) ≡ true)
-      × ((n : ℕ) → 0 ≤ n → n < lowestOut words → not (holds words n) ≡ false)
-  unfolding lowestOut
-  first-out = rw (zero-add (bitsOf words)) at (first-passes (λ (n : ℕ). not (holds words n)) (bitsOf words) 0)
+-- It is in neither, where the second has no more words, and every lower one is in one.
+module _ (a b : List ℕ) where
+  abbrev low : ℕ
+  low = lowestOut a b
 
-  pub lowest-most : lowestOut words ≤ bitsOf words
+  first-out : (low ≤ bitsOf a) × (low < bitsOf a → not (holds a low || holds b low) ≡ true)
+      × ((n : ℕ) → 0 ≤ n → n < low → not (holds a n || holds b n) ≡ false)
+  unfolding lowestOut
+  first-out = rw (zero-add (bitsOf a)) at (first-passes (λ (n : ℕ). not (holds a n || holds b n)) (bitsOf a) 0)
+
+  pub lowest-most : low ≤ bitsOf a
   lowest-most = first-out .0
 
-  pub lowest-out : holds words (lowestOut words) ≡ false
-  lowest-out =
-      whether (ltb (lowestOut words) (bitsOf words))
-      (λ l. not-true (holds words (lowestOut words)) (first-out .1 (ltb-true (lowestOut words) (bitsOf words) l)))
-      (λ l. holds-past words (lowestOut words) (ltb-false (lowestOut words) (bitsOf words) l))
+  pub lowest-out : length b ≤ length a → (holds a low || holds b low) ≡ false
+  lowest-out h =
+      whether (ltb low (bitsOf a))
+      (λ l. not-true (holds a low || holds b low) (first-out .1 (ltb-true low (bitsOf a) l)))
+      (λ l. let past = ltb-false low (bitsOf a) l in
+      rw (holds-past a low past, holds-past b low (omega (arith, past, h))))
 
-  pub lowest-under : (n : ℕ) → n < lowestOut words → holds words n ≡ true
-  lowest-under n h = not-false (holds words n) (first-out .2 n (omega arith) h)
+  pub lowest-under : (n : ℕ) → n < low → (holds a n || holds b n) ≡ true
+  lowest-under n h = not-false (holds a n || holds b n) (first-out .2 n (omega arith) h)
 
--- ---- By a test: words that hold exactly the numbers that pass one
+-- ---- By a test: sets that hold exactly the numbers that pass one, one set or two together
 
-module _ (p : ℕ → Bool) (words : List ℕ) (is : (n : ℕ) → n < bitsOf words → holds words n ≡ p n) where
-  pub members-by : members words ≡ keep p (below (bitsOf words))
+module _ (p : ℕ → Bool) where
+  pub members-by : (words : List ℕ) → ((n : ℕ) → n < bitsOf words → holds words n ≡ p n) → members words ≡ keep p (below (bitsOf words))
   unfolding members
-  members-by = keep-rising _ _ (bitsOf words) 0 (λ n a h. is n (omega (arith, h)))
+  members-by words is = keep-rising _ _ (bitsOf words) 0 (λ n l h. is n (omega (arith, h)))
 
-  pub lowest-by : lowestOut words ≡ head (bitsOf words) (keep (λ (n : ℕ). not (p n)) (below (bitsOf words)))
+  pub lowest-by :
+      (a b : List ℕ) → ((n : ℕ) → n < bitsOf a → (holds a n || holds b n) ≡ p n)
+      → lowestOut a b ≡ head (bitsOf a) (keep (λ (n : ℕ). not (p n)) (below (bitsOf a)))
   unfolding lowestOut
-  lowest-by = ap (head (bitsOf words)) (keep-rising _ _ (bitsOf words) 0 (λ n a h. ap not (is n (omega (arith, h)))))
+  lowest-by a b is = ap (head (bitsOf a)) (keep-rising _ _ (bitsOf a) 0 (λ n l h. ap not (is n (omega (arith, h)))))

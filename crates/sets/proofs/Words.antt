@@ -1,15 +1,16 @@
 -- A set by its words, as the code puts a number in and goes from word to word. Assumes nothing.
 use Prim.Native.Nat.{ℕ, _+_, _-_, _*_, _/_, _%_, _^_, _≤_, _<_}
-use mathlib.Core.Path.{_≡_, sym, ap, _∙_}
-use mathlib.Core.Bool.{Bool, not}
+use mathlib.Core.Path.{_≡_, sym, ap}
+use mathlib.Core.Bool.{Bool, not, _||_}
 use mathlib.Core.List.{List, [], _++_}
 use native.Mathlib.Omega.{arith}
 use native.Mathlib.Nat.{one-mul}
-use lib.Bits.{bitOr}
+use lib.Bits.{bitOr, or-lt}
 use lib.Count.{trailingZeros, ones}
 use lib.Pow.{shl-exact}
 use lib.ListN.{length, getD, set, length-append}
 use Rattle.mps.specs.Words.{bit, keep, head, rising}
+use Rattle.laws.proofs.Bits.{bit-or}
 use Rattle.laws.proofs.Lists.{keep-append}
 use Rattle.laws.proofs.Rising.{rising-append}
 use Rattle.sets.specs.Sets.{holds, withNumber, bitsOf, members, lowestOut, setBits}
@@ -85,40 +86,47 @@ module _ (words : List ℕ) (n k : ℕ) (inv : Counts words n k) where
         bits-count 64 (k * 64) (getD words k 0) b,
       )
 
--- ---- The lowest that is not in a set
+-- ---- The lowest that is in neither of two sets
 
 -- That from word k on.
-unfoldable pub lowestFrom : List ℕ → ℕ → ℕ
-lowestFrom words k = head (bitsOf words) (keep (λ (n : ℕ). not (holds words n)) (rising ((length words - k) * 64) (k * 64)))
+unfoldable pub lowestFrom : List ℕ → List ℕ → ℕ → ℕ
+lowestFrom a b k = head (bitsOf a) (keep (λ (n : ℕ). not (holds a n || holds b n)) (rising ((length a - k) * 64) (k * 64)))
 
-pub lowest-first : (words : List ℕ) → lowestFrom words 0 ≡ lowestOut words
+pub lowest-first : (a b : List ℕ) → lowestFrom a b 0 ≡ lowestOut a b
 unfolding lowestFrom lowestOut
-lowest-first words =
-    let all : (length words - 0) * 64 ≡ 64 * length words = omega arith in
+lowest-first a b =
+    let all : (length a - 0) * 64 ≡ 64 * length a = omega arith in
     rw all
 
-module _ (words : List ℕ) (k : ℕ) where
-  pub lowest-done : length words ≤ k → lowestFrom words k ≡ bitsOf words
+module _ (a b : List ℕ) (k : ℕ) where
+  abbrev out : ℕ → Bool
+  out n = not (holds a n || holds b n)
+
+  pub lowest-done : length a ≤ k → lowestFrom a b k ≡ bitsOf a
   unfolding lowestFrom
-  lowest-done h = rw (from-done (λ (n : ℕ). not (holds words n)) (length words) k h)
+  lowest-done h = rw (from-done out (length a) k h)
 
-  -- By the complement of word k.
-  module _ (h : k < length words) (b : getD words k 0 < 2 ^ 64) where
+  -- By the complement of both words k together.
+  module _ (h : k < length a) (s : getD a k 0 < 2 ^ 64) (t : getD b k 0 < 2 ^ 64) where
+    abbrev both : ℕ
+    both = bitOr (getD a k 0) (getD b k 0)
+
     abbrev free : ℕ
-    free = 2 ^ 64 - 1 - getD words k 0
+    free = 2 ^ 64 - 1 - both
 
-    out-next :
-        keep (λ (n : ℕ). not (holds words n)) (rising ((length words - k) * 64) (k * 64))
-        ≡ setBits 64 (k * 64) free ++ keep (λ (n : ℕ). not (holds words n)) (rising ((length words - (k + 1)) * 64) ((k + 1) * 64))
-    out-next =
-        from-next (λ (n : ℕ). not (holds words n)) (length words) k free h
-        (λ j l. ap not (own words k j l) ∙ sym (bit-not 64 j (getD words k 0) b l))
+    own-free : (j : ℕ) → j < 64 → out (k * 64 + j) ≡ bit j free
+    own-free j l =
+        rw (own a k j l, own b k j l, ← bit-or j (getD a k 0) (getD b k 0))
+        (sym (bit-not 64 j both (or-lt 64 (getD a k 0) (getD b k 0) s t) l))
 
-    pub lowest-next : free ≡ 0 → lowestFrom words k ≡ lowestFrom words (k + 1)
+    out-next : keep out (rising ((length a - k) * 64) (k * 64)) ≡ setBits 64 (k * 64) free ++ keep out (rising ((length a - (k + 1)) * 64) ((k + 1) * 64))
+    out-next = from-next out (length a) k free h own-free
+
+    pub lowest-next : free ≡ 0 → lowestFrom a b k ≡ lowestFrom a b (k + 1)
     unfolding lowestFrom
     lowest-next e = rw (out-next, bits-none 64 (k * 64) free e)
 
-    pub lowest-here : (free ≡ 0 → ⊥) → (trailingZeros 64 free < 64) × (lowestFrom words k ≡ k * 64 + trailingZeros 64 free)
+    pub lowest-here : (free ≡ 0 → ⊥) → (trailingZeros 64 free < 64) × (lowestFrom a b k ≡ k * 64 + trailingZeros 64 free)
     unfolding lowestFrom
     lowest-here some =
         let low = bits-lowest 64 (k * 64) free some (omega arith) in

@@ -1,7 +1,7 @@
 -- Sets of numbers in words of 64 bits: number n is bit n % 64 of word n / 64. Four words have bits for 0 to 255; a number past
 -- the last word is in no set.
 use Prim.Native.Nat.{ℕ, zero, suc, _*_, _/_, _%_, _^_}
-use mathlib.Core.Bool.{Bool, not}
+use mathlib.Core.Bool.{Bool, not, _||_}
 use mathlib.Core.List.{List, [], _∷_, _++_}
 use lib.Bits.{bitOr}
 use lib.Dec.{eqb}
@@ -29,9 +29,9 @@ bitsOf words = 64 * length words
 unfoldable pub members : List ℕ → List ℕ
 members words = keep (holds words) (below (bitsOf words))
 
--- The lowest number that is not in a set: where all are in that it has bits for, the first behind them.
-unfoldable pub lowestOut : List ℕ → ℕ
-lowestOut words = head (bitsOf words) (keep (λ (n : ℕ). not (holds words n)) (below (bitsOf words)))
+-- The lowest number that is in neither of two sets: where all are in one that the first has bits for, the first behind them.
+unfoldable pub lowestOut : List ℕ → List ℕ → ℕ
+lowestOut a b = head (bitsOf a) (keep (λ (n : ℕ). not (holds a n || holds b n)) (below (bitsOf a)))
 
 -- The numbers of a word's bits that are set, its first d bits being numbered from n on.
 unfoldable pub setBits : ℕ → ℕ → ℕ → List ℕ

@@ -37,14 +37,15 @@ pub fn count(set: &[u64; 4]) -> usize
     n
 }
 
-// The lowest number that is not in a set, 256 where all are in.
-pub fn lowest(set: &[u64; 4]) -> usize
-    ensures { λ r. ⌜ r ≡ lowestOut (now (set .entry)) ⌝ }
+// The lowest number that is in neither of two sets, 256 where each is in one.
+pub fn lowest(a: &[u64; 4], b: &[u64; 4]) -> usize
+    ensures { λ r. ⌜ r ≡ lowestOut (now (a .entry)) (now (b .entry)) ⌝ }
 {
-    let words: &[u64] = set;
+    let first: &[u64] = a;
+    let second: &[u64] = b;
     let mut at = 0;
-    while at < words.len() {
-        let free = !words[at];
+    while at < first.len() {
+        let free = !(first[at] | second[at]);
         if free != 0 {
             return at * 64 + u64::trailing_zeros(free) as usize;
         }

@@ -1,6 +1,5 @@
 -- The loop keeps `Gives`.
 use Prim.Native.Nat.{_-_, _<_}
-use mathlib.Core.Path.{refl}
 use mathlib.Core.Logic.{⊎-elim}
 use native.Mathlib.Omega.{arith}
 use lib.ListN.{length}
@@ -11,13 +10,13 @@ use Rattle.renumbering.proofs.give.Statement.{statement}
 use Rattle.renumbering.proofs.give.Tie as tie
 
 abbrev Inv-loop : tie.InvT-loop
-Inv-loop out₀ used₀ processors s place₀ at₀ out used place at = Gives out₀ used₀ processors s out used place at
+Inv-loop out₀ own₀ processors s place₀ at₀ out own place at = Gives out₀ own₀ processors s out own place at
 
 abbrev μ-loop : tie.MeasureT-loop
-μ-loop out₀ used₀ processors s place₀ at₀ out used place at = length s - at
+μ-loop out₀ own₀ processors s place₀ at₀ out own place at = length s - at
 
 loop-holds : tie.Need-loop-holds Inv-loop μ-loop
-loop-holds c = (omega arith, writes-first _ _ _, refl, c .before .before .pre .1)
+loop-holds c = (omega arith, writes-first _ _ _, c .before .before .pre .1)
 
 number-requires : tie.Need-number-requires Inv-loop μ-loop
 number-requires c κs =
@@ -25,10 +24,10 @@ number-requires c κs =
     omega (arith, gives-small _ _ _ _ _ _ _ _ (l .inv) (omega arith) (c .before .before .if1 .taken))
 
 room :
-    (c : tie.After-put Inv-loop μ-loop) → let l = c .before .before .before .before .before .before .before .before .loop in
+    (c : tie.After-number Inv-loop μ-loop) → let l = c .before .before .before .before .before .before .loop in
     l .place < length (l .out)
 room c =
-    let n = c .before .before .before .before .before in
+    let n = c .before .before .before in
     let l = n .before .before .before .loop in
     gives-room _ _ _ _ _ _ _ _ (l .inv) (omega arith) (n .if1 .taken) (n .before .before .before .before .before .before .pre .0)
 
@@ -36,13 +35,13 @@ slice-write-out : tie.Need-slice-write-out Inv-loop μ-loop
 slice-write-out c = omega (arith, room c)
 
 add-place : tie.Need-add-place Inv-loop μ-loop
-add-place c = let l = c .before .before .before .before .before .before .before .before .loop in omega (arith, room c, l .inv .1 .room)
+add-place c = let l = c .before .before .before .before .before .before .loop in omega (arith, room c, l .inv .1 .room)
 
 loop-again : tie.Need-loop-again Inv-loop μ-loop
 loop-again c =
     let l = c .before .before .before .loop in
     ⊎-elim
-    (λ w. rw (w .6, w .7, w .8) (gives-on _ _ _ _ _ _ _ _ (l .inv) (omega arith) (w .0 .taken) (w .3 .ensures) (w .5 .ensures)))
+    (λ w. rw (w .4, w .5, w .6) (gives-on _ _ _ _ _ _ _ _ (l .inv) (omega arith) (w .0 .taken) (w .3 .ensures .0) (w .3 .ensures .1)))
     (λ w. rw (w .1, w .2, w .3) (gives-off _ _ _ _ _ _ _ _ (l .inv) (omega arith) (w .0 .left)))
     (c .if1 .came)
 
@@ -61,7 +60,6 @@ give-spec =
     loop-holds
     (λ c. search needs) (λ c. search needs) (λ c. search needs) (λ c. search needs) (λ c. search needs)
     number-requires
-    (λ c κs. search needs)
     slice-write-out
     add-place
     (λ c. search needs) (λ c. search needs)
