@@ -68,10 +68,10 @@ module _ (t : List ℕ) (a : tableRefusal t ≡ 0) where
 
   module _ (b : Bytes t) where
     pub processors-below : Below everyone (enabledIds processorType (baseEntries t))
-    processors-below = ids-below processorType t b (obeyed t a .processors-own)
+    processors-below = ids-below processorType t b (obeyed t a .processors-not-255)
 
     pub ioapics-below : Below everyone (enabledIds ioApicType (baseEntries t))
-    ioapics-below = ids-below ioApicType t b (obeyed t a .ioapics-own)
+    ioapics-below = ids-below ioApicType t b (obeyed t a .ioapics-not-255)
 
     pub kept-below : Below everyone (keptIds (baseEntries t))
     kept-below z h = ioapics-below z (kept-in (baseEntries t) z h .0)

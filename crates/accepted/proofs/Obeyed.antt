@@ -14,14 +14,14 @@ use Rattle.laws.proofs.Tests.{or-parts}
 use Rattle.laws.proofs.Refusals.{refusal-pass}
 use Rattle.accepted.proofs.Sound.{sound, sound-rest}
 
--- IDs of which each names one: none of them all, and no two the same.
-abbrev Named : List ℕ → Type 0
-Named ids = (among everyone ids ≡ false) × (twice ids ≡ false)
+-- IDs of which each names one: none is 255, which names all, and no two are the same.
+abbrev Single : List ℕ → Type 0
+Single ids = (among everyone ids ≡ false) × (twice ids ≡ false)
 
 -- Such are those of the enabled processors,
-processors-named : (t : List ℕ) → wrongProcessors t ≡ false → Named (enabledIds processorType (baseEntries t))
+processors-single : (t : List ℕ) → wrongProcessors t ≡ false → Single (enabledIds processorType (baseEntries t))
 unfolding wrongProcessors
-processors-named t e =
+processors-single t e =
     let es = baseEntries t in
     let ids = enabledIds processorType es in
     let boots =
@@ -30,9 +30,9 @@ processors-named t e =
     (or-parts boots (among everyone ids) (once .0) .1, once .1)
 
 -- and those of the enabled I/O APICs.
-ioapics-named : (es : List Entry) → wrongIoApics es ≡ false → Named (enabledIds ioApicType es)
+ioapics-single : (es : List Entry) → wrongIoApics es ≡ false → Single (enabledIds ioApicType es)
 unfolding wrongIoApics
-ioapics-named es e =
+ioapics-single es e =
     let ids = enabledIds ioApicType es in
     let placed = or-parts (among everyone ids || twice ids) (any misplaced (enabledOf ioApicType es)) e in
     or-parts (among everyone ids) (twice ids) (placed .0)
@@ -57,9 +57,9 @@ spaces-one-parent es xs e =
 
 pub record Obeyed (t : List ℕ) : Type 0 where
   pub processors : twice (enabledIds processorType (baseEntries t)) ≡ false
-  pub processors-own : among everyone (enabledIds processorType (baseEntries t)) ≡ false
+  pub processors-not-255 : among everyone (enabledIds processorType (baseEntries t)) ≡ false
   pub ioapics : twice (enabledIds ioApicType (baseEntries t)) ≡ false
-  pub ioapics-own : among everyone (enabledIds ioApicType (baseEntries t)) ≡ false
+  pub ioapics-not-255 : among everyone (enabledIds ioApicType (baseEntries t)) ≡ false
   pub parents : OneParent (baseEntries t) (extendedEntries t)
 
 pub obeyed : (t : List ℕ) → tableRefusal t ≡ 0 → Obeyed t
@@ -71,9 +71,9 @@ obeyed t e =
     let seventeen = refusal-pass 17 _ _ (omega arith) (sixteen .1) in
     let eighteen = refusal-pass 18 _ _ (omega arith) (seventeen .1) in
     record {
-      processors = processors-named t (fourteen .0) .1;
-      processors-own = processors-named t (fourteen .0) .0;
-      ioapics = ioapics-named (baseEntries t) (sixteen .0) .1;
-      ioapics-own = ioapics-named (baseEntries t) (sixteen .0) .0;
+      processors = processors-single t (fourteen .0) .1;
+      processors-not-255 = processors-single t (fourteen .0) .0;
+      ioapics = ioapics-single (baseEntries t) (sixteen .0) .1;
+      ioapics-not-255 = ioapics-single (baseEntries t) (sixteen .0) .0;
       parents = spaces-one-parent (baseEntries t) (extendedEntries t) (eighteen .0);
     }

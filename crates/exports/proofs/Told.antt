@@ -9,9 +9,9 @@ use lib.ListN.{length}
 use lib.Dec.{eqb, leb}
 use Rattle.packs.specs.Packs.{packed, padded, Fit}
 use Rattle.packs.proofs.Laws.{taken-packed}
-use Rattle.mps.specs.Words.{among, any, each, part, first, head, below}
-use Rattle.mps.specs.Refusals.{Rule, _when_, refusal, innerNumber}
-use Rattle.mps.specs.Rooms.{tooSmall, roomRules, lentRefusal}
+use Rattle.mps.specs.Words.{among, any, part, first, head, below}
+use Rattle.mps.specs.Refusals.{Rule, refusal, innerNumber}
+use Rattle.mps.specs.Rooms.{roomRules, lentRefusal}
 use Rattle.mps.specs.Layout.{baseLength, extendedEnd, baseEntries}
 use Rattle.mps.specs.Answers.{judgedNumbers, judgedOf, heldNumbers, lentNumbers, lentOf, partedNumbers, partedOf, renumberedNumbers, renumberedOf}
 use Rattle.mps.specs.Answers.{seenNumbers, seenOf, linksOf, editedNumbers, editedOf, foundNumbers, foundOf}
@@ -23,7 +23,7 @@ use Rattle.mps.specs.Edits.{Edit, editedTable, innerRefusal, editRules, editRef
 use Rattle.mps.specs.Reader.{sizeAt, found}
 use Rattle.mps.specs.Routes.{Question, pairSize, routesOf, lineRules, routeRefusal, routed}
 use Rattle.mps.specs.Slots.{Slot, slotRoutesOf, slotRules, slotRefusal, slotRouted, slotSize, slotsOf, slotsRefusal, slotsListed}
-use Rattle.mps.specs.Renumber.{noneFree, newNumbersOf, usedNumbers, bitsSet, renumberRules, renumberRefusal, renumbered}
+use Rattle.mps.specs.Renumber.{newNumbersOf, usedNumbers, bitsSet, renumberRules, renumberRefusal, renumbered}
 use Rattle.mps.specs.Addresses.{seenBy, addressRules, seen}
 use Rattle.mps.specs.declared.Held.{Held}
 use Rattle.mps.specs.declared.Held.the-variants.{Default, Table, Refused as Held·Refused}
@@ -31,13 +31,14 @@ use Rattle.mps.specs.declared.Parted.the-variants.{Parts as Parted·Parts}
 use Rattle.mps.specs.declared.Seen.{Seen}
 use Rattle.mps.specs.declared.Seen.the-variants.{No, Yes, Undeclared, Refused as Seen·Refused}
 use Rattle.laws.proofs.Tests.{whether}
-use Rattle.laws.proofs.Refusals.{number, first-none, refusal-append, refusal-below}
+use Rattle.laws.proofs.Refusals.{number, first-none, refusal-below}
 use Rattle.laws.proofs.Lists.{keep-most}
 use Rattle.laws.proofs.Rising.{length-rising}
 use Rattle.laws.proofs.Parts.{length-part}
 use Rattle.laws.proofs.Small.{Bytes}
 use Rattle.accepted.proofs.Sound.{sound}
 use Rattle.accepted.proofs.Numbering.{new-most}
+use Rattle.judge.proofs.Laws.{behind-room}
 use Rattle.dump.proofs.Laws.{held-number, held-table}
 use Rattle.dump.proofs.Narrow.{default-narrow, table-narrow}
 use Rattle.listing.proofs.Longest.{list-most}
@@ -198,10 +199,8 @@ renumber-below t room = byte-below _ refl
 
 -- An answer is of an accepted table.
 renumber-accepted : (t room : List ℕ) → renumberRefusal t room ≡ 0 → tableRefusal t ≡ 0
-unfolding renumberRefusal renumberRules roomRules tableRefusal tableRules among each
-renumber-accepted t room e =
-    first-none (tableRefusal t) _
-    (sym (refusal-append (tableRules t) (_ when tooSmall (length (newNumbersOf t)) room ∷ _ when noneFree (baseEntries t) ∷ []) refl) ∙ e) .0
+unfolding renumberRefusal renumberRules
+renumber-accepted t room e = first-none (tableRefusal t) _ (sym (behind-room t _ _) ∙ e) .0
 
 -- A set of 256 bits has no more.
 bits-most : (used : List ℕ) → bitsSet used ≤ 256

@@ -2,11 +2,12 @@
 use Prim.Native.Nat.{ℕ, zero, suc, _-_, _/_}
 use mathlib.Core.Path.{_≡_, refl, sym, ap, _∙_}
 use mathlib.Core.Bool.{Bool, true, false, cond, true≢false}
-use mathlib.Core.List.{List, _++_}
+use mathlib.Core.List.{List, [], _∷_, _++_, append-assoc}
 use native.Mathlib.Omega.{arith}
 use lib.ListN.{length}
 use Rattle.mps.specs.Words.{head, among, keep, each, first, part}
-use Rattle.mps.specs.Refusals.{Rule, refusal}
+use Rattle.mps.specs.Refusals.{Rule, _when_, refusal, roomNumber}
+use Rattle.mps.specs.Rooms.{roomRules}
 use Rattle.mps.specs.Answers.{examinedOf, examinedNumbers}
 use Rattle.mps.specs.Layout.{headerSize, processorSize, entrySize, processorType, busType, ioApicType, idOf, baseEntries, extendedEntries}
 use Rattle.mps.specs.Table.{wrongExtendedPart, walkFrom, wrongExtended, extendedFrom}
@@ -126,6 +127,14 @@ table-some t = refl
 pub behind-table : (t : List ℕ) (own : List Rule) → refusal (tableRules t ++ own) ≡ first (tableRefusal t) (refusal own)
 unfolding tableRefusal
 behind-table t own = refusal-append (tableRules t) own (table-some t)
+
+-- And of one that has further rows behind its room's.
+pub behind-room :
+    (t : List ℕ) (small : Bool) (after : List Rule)
+    → refusal (roomRules (tableRules t) small ++ after) ≡ first (tableRefusal t) (refusal (roomNumber when small ∷ after))
+unfolding roomRules
+behind-room t small after =
+    ap refusal (append-assoc (tableRules t) (roomNumber when small ∷ []) after) ∙ behind-table t (roomNumber when small ∷ after)
 
 -- ---- The enabled APICs
 

@@ -53,12 +53,22 @@ module _ (t room : List ℕ) where
       given-before (tableRules t)
       (19 when tooSmall (length (newNumbersOf t)) room ∷ 26 when noneFree (baseEntries t) ∷ []) refl n p h
 
-  -- 19: "answer longer than the lent room"
+  -- 19: "answer longer than the lent room",
   pub renumber-19 : Exactly (renumberRefusal t room) 19 (tableRules t) (tooSmall (length (newNumbersOf t)) room)
   unfolding renumberRefusal renumberRules roomRules tableRules among each
   renumber-19 =
       given-exactly (tableRules t) 19 (tooSmall (length (newNumbersOf t)) room)
       (26 when noneFree (baseEntries t) ∷ []) (omega arith) refl refl
+
+  -- that is, where the table is accepted and the room has fewer bytes than there are enabled I/O APICs.
+  pub renumber-19-when : (renumberRefusal t room ≡ 19)
+      ↔ ((tableRefusal t ≡ 0) × (length room < length (enabledOf ioApicType (baseEntries t))))
+  unfolding tooSmall
+  renumber-19-when = (
+    λ e. let g = renumber-19 .0 e in
+        (given-none t .1 (g .0), omega (arith, ltb-true (length room) (length (newNumbersOf t)) (g .1), new-length t)),
+    λ h. renumber-19 .1 (given-none t .0 (h .0), lt-ltb (length room) (length (newNumbersOf t)) (omega (arith, h .1, new-length t))),
+  )
 
   -- 26, behind all others.
   pub renumber-26 :
@@ -201,6 +211,12 @@ module _ (t room : List ℕ) {n bits : ℕ} (r : renumbered t room ≡ Given n b
   unfolding renumberLeft
   new-in-order = rw (told .0, told .1) (left-put (newNumbersOf t) room)
 
+  -- Where none shares, the room begins with the table's own numbers.
+  pub nothing-shared-left : any (shares (baseEntries t)) (enabledOf ioApicType (baseEntries t)) ≡ false
+      → renumberLeft t room ≡ enabledIds ioApicType (baseEntries t) ++ drop n room
+  unfolding newNumbersOf
+  nothing-shared-left h = new-in-order ∙ rw (nothing-shared (baseEntries t) h .0)
+
   number-at : (k : ℕ) → k < n → byte (renumberLeft t room) k ≡ byte (newNumbersOf t) k
   number-at k h = rw new-in-order (List·getD-append (newNumbersOf t) (drop n room) 0 k (omega (arith, h, told .1)))
 
@@ -260,7 +276,7 @@ module _ (t room : List ℕ) {n bits : ℕ} (r : renumbered t room ≡ Given n b
       (record {
         low = lowest-below used (low .0);
         free = sym (is _) ∙ lowest-out used (low .0);
-        lower-held = λ m l. sym (is m) ∙ lowest-under used (low .0) m l;
+        lower-held = λ m l. sym (is m) ∙ lowest-under used m l;
       })
 
   -- "from 0 to 254", kept or new: of a table of bytes.

@@ -62,10 +62,10 @@ module _ (q : Question) (t room : List ℕ) {n : ℕ} (r : routed q t room ≡ C
 
 module _ (t : List ℕ) (a : tableRefusal t ≡ 0) (itype bus irq id into : ℕ) where
   pub io-never-255 : Route (question ioSide itype bus irq) (baseEntries t) id into → id ≡ everyone → ⊥
-  io-never-255 = no-everyone (matches (question ioSide itype bus irq)) ioApicType (baseEntries t) (obeyed t a .ioapics-own) id into
+  io-never-255 = no-everyone (matches (question ioSide itype bus irq)) ioApicType (baseEntries t) (obeyed t a .ioapics-not-255) id into
 
   pub local-never-255 : Route (question localSide itype bus irq) (baseEntries t) id into → id ≡ everyone → ⊥
-  local-never-255 = no-everyone (matches (question localSide itype bus irq)) processorType (baseEntries t) (obeyed t a .processors-own) id into
+  local-never-255 = no-everyone (matches (question localSide itype bus irq)) processorType (baseEntries t) (obeyed t a .processors-not-255) id into
 
 -- ---- The numbers
 

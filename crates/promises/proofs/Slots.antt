@@ -68,7 +68,7 @@ module _ (s : Slot) (t room : List ℕ) {n : ℕ} (r : slotRouted s t room ≡ C
 -- "255 names all": the ID is the I/O APIC's own.
 pub slot-never-255 :
     (s : Slot) (t : List ℕ) → tableRefusal t ≡ 0 → (id into : ℕ) → SlotRoute s (baseEntries t) id into → id ≡ everyone → ⊥
-slot-never-255 s t a = no-everyone (wiredFrom s) ioApicType (baseEntries t) (obeyed t a .ioapics-own)
+slot-never-255 s t a = no-everyone (wiredFrom s) ioApicType (baseEntries t) (obeyed t a .ioapics-not-255)
 
 -- ---- The numbers: "Refusals: 25, bus listed but not PCI, or device or pin out of range, after 24 and before 19."
 

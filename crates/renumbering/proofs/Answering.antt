@@ -12,9 +12,9 @@ use Rattle.mps.specs.Words.{among, each, keep, first, part}
 use Rattle.mps.specs.Refusals.{_when_, refusal, roomNumber}
 use Rattle.mps.specs.Layout.{Entry, ofType, headerSize, processorSize, entrySize, processorType, ioApicType, idOf, enabled, everyone, baseEntries}
 use Rattle.mps.specs.Rules.{enabledOf, enabledIds}
-use Rattle.mps.specs.Judge.{tableRules, tableRefusal, examined}
+use Rattle.mps.specs.Judge.{tableRefusal, examined}
 use Rattle.mps.specs.Answers.{renumberedOf}
-use Rattle.mps.specs.Rooms.{tooSmall, roomRules}
+use Rattle.mps.specs.Rooms.{tooSmall}
 use Rattle.mps.specs.Renumber.{shares, keptIds, heldIds, newNumbers, newNumbersOf, noneFree, usedNumbers, bitsSet}
 use Rattle.mps.specs.Renumber.{renumberRules, renumberRefusal, renumbered, renumberLeft}
 use Rattle.mps.specs.declared.Sections.{Sections}
@@ -24,7 +24,7 @@ use Rattle.mps.specs.declared.Renumbered.{Renumbered}
 use Rattle.mps.specs.declared.Renumbered.the-variants.{Given, Refused}
 use Rattle.laws.proofs.Lists.{length-each}
 use Rattle.laws.proofs.Tests.{whether}
-use Rattle.laws.proofs.Refusals.{number, first-some, refusal-append}
+use Rattle.laws.proofs.Refusals.{first-some}
 use Rattle.laws.proofs.Lent.{left-kept, left-put}
 use Rattle.laws.proofs.Stores.{sets-at-start}
 use Rattle.laws.proofs.Small.{Bytes, Small, small-base, small-keep}
@@ -35,7 +35,7 @@ use Rattle.sets.specs.Sets.{holds, putAll, members}
 use Rattle.accepted.proofs.Obeyed.{obeyed}
 use Rattle.accepted.proofs.Numbering.{kept-ids, processors-below, ioapics-below, held-below, none-free, new-below, used-count}
 use Rattle.judge.specs.Placed.{Placed}
-use Rattle.judge.proofs.Laws.{refused-number, refused-some, behind-table, placed-processors, placed-ioapics}
+use Rattle.judge.proofs.Laws.{refused-number, refused-some, placed-processors, placed-ioapics, behind-room}
 use Rattle.renumbering.specs.Giving.{numbersIn}
 use Rattle.renumbering.proofs.Laws.{Has, has-none, has-all, has-count, Both, both-has, numbers-are}
 
@@ -53,19 +53,11 @@ module _ (t room : List ℕ) where
   abbrev small : Bool
   small = tooSmall (length (newNumbersOf t)) room
 
-  rows-some : among 0 (each number (tableRules t ++ (roomNumber when small ∷ []))) ≡ false
-  unfolding tableRules among each
-  rows-some = refl
-
   -- The table's rows, 19, then 26.
   is-number :
-      renumberRefusal t room
-      ≡ first (first (tableRefusal t) (refusal (roomNumber when small ∷ []))) (refusal (26 when noneFree (baseEntries t) ∷ []))
-  unfolding renumberRefusal renumberRules roomRules
-  is-number =
-      let none = 26 when noneFree (baseEntries t) ∷ [] in
-      refusal-append (tableRules t ++ (roomNumber when small ∷ [])) none rows-some
-      ∙ ap (λ (n : ℕ). first n (refusal none)) (behind-table t (roomNumber when small ∷ []))
+      renumberRefusal t room ≡ first (tableRefusal t) (refusal (roomNumber when small ∷ 26 when noneFree (baseEntries t) ∷ []))
+  unfolding renumberRefusal renumberRules
+  is-number = behind-room t small (26 when noneFree (baseEntries t) ∷ [])
 
   refused : {n : ℕ} → renumberRefusal t room ≡ n → (n ≡ 0 → ⊥) → Answers t room (Refused n) room
   unfolding renumbered renumberLeft
@@ -74,7 +66,7 @@ module _ (t room : List ℕ) where
   pub examined-refused : {found : Examined} {n : ℕ} → found ≡ examined t → found ≡ Examined·Refused n → Answers t room (Refused n) room
   examined-refused {found} {n} e k =
       let z = refused-some t e k in
-      refused (is-number ∙ rw (← refused-number t e k, first-some n (refusal (roomNumber when small ∷ [])) z) (first-some n _ z)) z
+      refused (is-number ∙ rw (← refused-number t e k) (first-some n _ z)) z
 
   module _ (a : tableRefusal t ≡ 0) where
     short : small ≡ true → Answers t room (Refused roomNumber) room

@@ -6,8 +6,8 @@
 //
 // The used numbers are two sets of 256 bits, the processors' and the I/O APICs'. One pass puts in those of the first, one those
 // of the second: one that shares its ID has a processor's, which is used too, and every other keeps it. One more gives the
-// numbers. So the cost is that of the table, and no number is looked for: the lowest that is free is found by the words of both
-// sets. One set would have to be a copy of the other, which waits for all that was put in.
+// numbers. So the cost is that of the table, and no number is tried by itself: the lowest that is free is found by the words of
+// both sets. One set would have to be a copy of the other, which waits for all that was put in.
 use mps::Examined;
 use mps::Renumbered;
 use mps::Sections;
@@ -24,6 +24,9 @@ ghost use Rattle.apics.specs.Enabled.{enabledIn};
 ghost use Rattle.sets.specs.Sets.{putAll};
 ghost use Rattle.judge.specs.Placed.{Placed};
 ghost use Rattle.renumbering.specs.Giving.{numberIn, ownWith, numbersIn};
+
+// How many numbers there are to have: 0 to 254.
+const NUMBERS: usize = layout::EVERYONE as usize;
 
 // A byte for each enabled I/O APIC stands in the room from its first byte on, in table order.
 pub fn renumber(t: &[u8], out: &mut [u8]) -> Renumbered
@@ -61,7 +64,7 @@ fn of_table(t: &[u8], p: Sections, out: &mut [u8]) -> Renumbered
     if out.len() < count {
         return Renumbered::Refused(19);
     }
-    if (layout::EVERYONE as usize) < held + count {
+    if NUMBERS < held + count {
         return Renumbered::Refused(26);
     }
     give(out, &mut own, &processors, apics);

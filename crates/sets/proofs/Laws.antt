@@ -14,8 +14,9 @@ use borrow.Author.Tests.{eq-eqb, ne-eqb, eqb-true, eqb-false, ltb-true, ltb-fals
 use Rattle.mps.specs.Words.{bit, among, keep, head, rising, below}
 use Rattle.laws.proofs.Tests.{whether, or-swap}
 use Rattle.laws.proofs.Bits.{bit-none, bit-power, bit-or}
-use Rattle.laws.proofs.Lists.{zeros-at, keep-in, keep-out, keep-append, keep-nothing, keep-most}
+use Rattle.laws.proofs.Lists.{zeros-at, keep-append, keep-nothing, keep-most}
 use Rattle.laws.proofs.Rising.{length-rising, rising-append, keep-rising}
+use Rattle.laws.proofs.Sieve.{sieve-first}
 use Rattle.sets.specs.Sets.{holds, withNumber, putAll, bitsOf, members, lowestOut}
 
 -- ---- What is in a set
@@ -103,42 +104,27 @@ members-all words m h =
 
 -- ---- The lowest that is in neither of two sets
 
--- The first number from k on that passes a test, k + n where none below that does: it passes, and none before it.
-first-passes :
-    (p : ℕ → Bool) (n k : ℕ) → let x = head (k + n) (keep p (rising n k)) in
-    (x ≤ k + n) × (x < k + n → p x ≡ true) × ((y : ℕ) → k ≤ y → y < x → p y ≡ false)
-unfolding keep rising
-first-passes p zero k = (omega arith, λ h. absurd (omega (arith, h)), λ y a h. absurd (omega (arith, a, h)))
-first-passes p (suc n) k =
-    whether (p k)
-    (λ t. rw (keep-in p k (rising n (suc k)) t) (omega arith, λ h. t, λ y a h. absurd (omega (arith, a, h))))
-    (λ f. let end : k + suc n ≡ suc k + n = omega arith in
-    let rest = first-passes p n (suc k) in
-    rw (keep-out p k (rising n (suc k)) f, end)
-    (rest .0, rest .1, λ y a h. whether (eqb y k) (λ e. rw (eqb-true y k e) f) (λ e. rest .2 y (omega (arith, a, eqb-false y k e)) h)))
-
 -- It is in neither, where the second has no more words, and every lower one is in one.
 module _ (a b : List ℕ) where
   abbrev low : ℕ
   low = lowestOut a b
 
-  first-out : (low ≤ bitsOf a) × (low < bitsOf a → not (holds a low || holds b low) ≡ true)
+  first-out : (low < bitsOf a → not (holds a low || holds b low) ≡ true)
       × ((n : ℕ) → 0 ≤ n → n < low → not (holds a n || holds b n) ≡ false)
   unfolding lowestOut
-  first-out = rw (zero-add (bitsOf a)) at (first-passes (λ (n : ℕ). not (holds a n || holds b n)) (bitsOf a) 0)
-
-  pub lowest-most : low ≤ bitsOf a
-  lowest-most = first-out .0
+  first-out =
+      let first = rw (zero-add (bitsOf a)) at (sieve-first (λ (n : ℕ). not (holds a n || holds b n)) (bitsOf a) 0) in
+      (first .1, first .2)
 
   pub lowest-out : length b ≤ length a → (holds a low || holds b low) ≡ false
   lowest-out h =
       whether (ltb low (bitsOf a))
-      (λ l. not-true (holds a low || holds b low) (first-out .1 (ltb-true low (bitsOf a) l)))
+      (λ l. not-true (holds a low || holds b low) (first-out .0 (ltb-true low (bitsOf a) l)))
       (λ l. let past = ltb-false low (bitsOf a) l in
       rw (holds-past a low past, holds-past b low (omega (arith, past, h))))
 
   pub lowest-under : (n : ℕ) → n < low → (holds a n || holds b n) ≡ true
-  lowest-under n h = not-false (holds a n || holds b n) (first-out .2 n (omega arith) h)
+  lowest-under n h = not-false (holds a n || holds b n) (first-out .1 n (omega arith) h)
 
 -- ---- By a test: sets that hold exactly the numbers that pass one, one set or two together
 
