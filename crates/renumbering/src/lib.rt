@@ -74,21 +74,32 @@ fn of_table(t: &[u8], p: Sections, out: &mut [u8]) -> Renumbered
     }
 }
 
-// Puts in the IDs of the enabled APICs, of entries of `size` bytes each. Answers how many they are.
+// Puts in the IDs of the enabled APICs, of entries of `size` bytes each. Answers how many they are. IDs mostly rise: the word
+// that the last one went to is kept at hand, since to read it from the set would wait until it is there.
 fn hold(set: &mut [u64; 4], s: &[u8], size: usize) -> usize
     requires { ⌜ 4 ≤ size ⌝ }
     ensures { λ r. ⌜ r ≡ length (enabledIn size (now (s .entry))) ⌝ }
     ensures { λ _. ⌜ now (set .exit) ≡ putAll (now (set .entry)) (enabledIn size (now (s .entry))) ⌝ }
 {
+    let mut k = 0;
+    let mut word = set[0];
     let mut count = 0;
     let mut at = 0;
     while size <= s.len() - at {
         if s[at + layout::APIC_FLAGS] % 2 == 1 {
-            sets::put(set, s[at + layout::ENTRY_ID]);
+            let id = s[at + layout::ENTRY_ID];
+            let own = (id / 64) as usize;
+            if own != k {
+                set[k] = word;
+                k = own;
+                word = set[k];
+            }
+            word = word | (1 << (id % 64));
             count += 1;
         }
         at += size;
     }
+    set[k] = word;
     count
 }
 

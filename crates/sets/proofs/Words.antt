@@ -1,15 +1,19 @@
 -- A set by its words, as the code puts a number in and goes from word to word. Assumes nothing.
 use Prim.Native.Nat.{ℕ, _+_, _-_, _*_, _/_, _%_, _^_, _≤_, _<_}
-use mathlib.Core.Path.{_≡_, sym, ap}
+use mathlib.Core.Path.{_≡_, sym, ap, _∙_}
 use mathlib.Core.Bool.{Bool, not, _||_}
 use mathlib.Core.List.{List, [], _++_}
 use native.Mathlib.Omega.{arith}
 use native.Mathlib.Nat.{one-mul}
 use lib.Bits.{bitOr, or-lt}
 use lib.Count.{trailingZeros, ones}
+use lib.Dec.{ltb}
 use lib.Pow.{shl-exact}
 use lib.ListN.{length, getD, set, length-append}
+use lib.Seq.{getD-set-same, set-set, set-out}
+use borrow.Author.Tests.{ltb-true, ltb-false}
 use Rattle.mps.specs.Words.{bit, keep, head, rising}
+use Rattle.laws.proofs.Tests.{whether}
 use Rattle.laws.proofs.Bits.{bit-or}
 use Rattle.laws.proofs.Lists.{keep-append}
 use Rattle.laws.proofs.Rising.{rising-append}
@@ -20,6 +24,20 @@ use Rattle.sets.proofs.Bits.{bit-not, bits-none, bits-lowest, bits-coun
 pub shift-put : (words : List ℕ) (n : ℕ) → set words (n / 64) (bitOr (getD words (n / 64) 0) (1 * 2 ^ (n % 64) % 2 ^ 64)) ≡ withNumber words n
 unfolding withNumber
 shift-put words n = rw (shl-exact {a = 1} 1 (n % 64) 64 (omega arith) (omega arith), one-mul (2 ^ (n % 64)))
+
+-- With the word that it belongs to kept at hand.
+pub kept-put :
+    (words : List ℕ) (n k word : ℕ) → k ≡ n / 64
+    → set words k (bitOr word (1 * 2 ^ (n % 64) % 2 ^ 64)) ≡ withNumber (set words k word) n
+kept-put words n k word e =
+    let at = n / 64 in
+    let new = bitOr word (1 * 2 ^ (n % 64) % 2 ^ 64) in
+    whether (ltb at (length words))
+    (λ t. rw e
+    (sym (set-set words at word new)
+    ∙ rw (getD-set-same words at word 0 (ltb-true at (length words) t)) at (shift-put (set words at word) n)))
+    (λ f. let past = ltb-false at (length words) f in
+    rw (e, set-out words at word past, set-out words at new past) (sym (set-out words at _ past) ∙ shift-put words n))
 
 -- ---- From word to word
 

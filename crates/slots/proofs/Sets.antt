@@ -1,13 +1,11 @@
--- Laws of the sets of slots: how one is put in, how many there are, and what the passes over the entries keep. Assumes nothing.
-use Prim.Native.Nat.{ℕ, _+_, _-_, _*_, _/_, _%_, _^_, _≤_, _<_}
+-- Laws of the sets of slots: how many there are, and what the passes over the entries keep. Assumes nothing.
+use Prim.Native.Nat.{ℕ, _+_, _-_, _/_, _≤_, _<_}
 use mathlib.Core.Path.{_≡_, refl, sym, ap, _∙_}
 use mathlib.Core.Bool.{Bool, true, false, _||_, or-assoc}
 use mathlib.Core.List.{List, [], _∷_}
 use native.Mathlib.Omega.{arith}
-use lib.Bits.{bitOr}
 use lib.Dec.{eqb, ltb}
-use lib.ListN.{length, getD, set, take, drop}
-use lib.Seq.{getD-set-same, set-set}
+use lib.ListN.{length, getD, take, drop}
 use borrow.Author.Tests.{ne-eqb, ltb-true, ltb-false}
 use Rattle.mps.specs.Words.{among, keep, each, below}
 use Rattle.mps.specs.Layout.{Entry, idOf, sourceBus}
@@ -18,19 +16,8 @@ use Rattle.laws.proofs.Rising.{keep-rising, keep-more, keep-again}
 use Rattle.laws.proofs.Rows.{rows-done, rows-next, row-byte}
 use Rattle.roll.specs.Roll.{busBit, marked}
 use Rattle.sets.specs.Sets.{holds, withNumber}
-use Rattle.sets.proofs.Words.{shift-put}
 use Rattle.sets.proofs.Laws.{length-put, holds-put}
 use Rattle.slots.specs.Sets.{slotNumber, namedOn, Held}
-
--- ---- One slot more
-
--- Put in by the word that is kept at hand, where it is the slot's.
-pub kept-put :
-    (words : List ℕ) (n : ℕ) → n / 64 < length words → (k word : ℕ) → k ≡ n / 64
-    → set words k (bitOr word (1 * 2 ^ (n % 64) % 2 ^ 64)) ≡ withNumber (set words k word) n
-kept-put words n h k word e =
-    let new = bitOr word (1 * 2 ^ (n % 64) % 2 ^ 64) in
-    rw e (sym (set-set words (n / 64) word new) ∙ rw (getD-set-same words (n / 64) word 0 h) at (shift-put (set words (n / 64) word) n))
 
 -- ---- How many there are
 

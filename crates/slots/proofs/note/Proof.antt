@@ -6,8 +6,8 @@ use native.Mathlib.Omega.{arith}
 use lib.ListN.{length, set, length-set}
 use lib.Seq.{set-getD}
 use borrow.Author.Needs.{needs}
-use Rattle.sets.proofs.Words.{shift-put}
-use Rattle.slots.proofs.Sets.{Notes, notes-done, notes-inside, notes-in, notes-out, kept-put}
+use Rattle.sets.proofs.Words.{shift-put, kept-put}
+use Rattle.slots.proofs.Sets.{Notes, notes-done, notes-inside, notes-in, notes-out}
 use Rattle.slots.proofs.note.Statement.{statement}
 use Rattle.slots.proofs.note.Tie as tie
 
@@ -50,7 +50,7 @@ loop-again c =
     (⊎-elim
     (λ v. rw (v .2, v .3, v .4) (notes-in _ _ _ _ _ (l .inv .0) (omega arith) told (w .0 .taken) n inside (shift-put (set (l .set) (l .k) (l .word)) (w .2 .result)), inside, same ∙ l .inv .2))
     (λ v. rw (v .1, v .2, v .3)
-    (notes-in _ _ _ _ _ (l .inv .0) (omega arith) told (w .0 .taken) n inside (kept-put (l .set) (w .2 .result) (omega (arith, inside, same)) (l .k) (l .word) (omega (arith, v .0 .left))), l .inv .1, l .inv .2))
+    (notes-in _ _ _ _ _ (l .inv .0) (omega arith) told (w .0 .taken) n inside (kept-put (l .set) (w .2 .result) (l .k) (l .word) (omega (arith, v .0 .left))), l .inv .1, l .inv .2))
     (w .3 .came)))
     (λ w. rw (w .1, w .2, w .3) (notes-out _ _ _ _ _ (l .inv .0) (omega arith) told (w .0 .left), l .inv .1, l .inv .2))
     (c .if1 .came)
