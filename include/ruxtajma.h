@@ -61,7 +61,7 @@ static inline unsigned ruxtajma_inner(uint64_t answer)
 
 /*
  * How many bytes, pairs or slots were written; or how long an entry is.  Not of
- * ruxtajma_renumber, which answers two values.
+ * ruxtajma_parts and ruxtajma_renumber, which answer two values.
  */
 static inline size_t ruxtajma_count(uint64_t answer)
 {

@@ -57,7 +57,7 @@ held-length es =
     omega (arith, length-append (enabledIds processorType es) (each idOf kept), length-each idOf kept)
 
 module _ (t : List ℕ) (a : tableRefusal t ≡ 0) where
-  pub held-apart : twice (heldIds (baseEntries t)) ≡ false
+  held-apart : twice (heldIds (baseEntries t)) ≡ false
   unfolding heldIds
   held-apart =
       let es = baseEntries t in
@@ -73,7 +73,7 @@ module _ (t : List ℕ) (a : tableRefusal t ≡ 0) where
     pub ioapics-below : Below everyone (enabledIds ioApicType (baseEntries t))
     ioapics-below = ids-below ioApicType t b (obeyed t a .ioapics-not-255)
 
-    pub kept-below : Below everyone (keptIds (baseEntries t))
+    kept-below : Below everyone (keptIds (baseEntries t))
     kept-below z h = ioapics-below z (kept-in (baseEntries t) z h .0)
 
     pub held-below : Below everyone (heldIds (baseEntries t))

@@ -97,11 +97,11 @@ module _ (shared : Entry → Bool) (used : List ℕ) (apic : Entry) (apics : Lis
   unfolding findsNone
   finds-own e = rw (e, findsNone)
 
-  pub kept-new : shared apic ≡ true → keptOf shared (apic ∷ apics) ≡ keptOf shared apics
+  kept-new : shared apic ≡ true → keptOf shared (apic ∷ apics) ≡ keptOf shared apics
   unfolding keptOf
   kept-new e = rw (keep-out (λ (x : Entry). not (shared x)) apic apics (rw e))
 
-  pub kept-own : shared apic ≡ false → keptOf shared (apic ∷ apics) ≡ idOf apic ∷ keptOf shared apics
+  kept-own : shared apic ≡ false → keptOf shared (apic ∷ apics) ≡ idOf apic ∷ keptOf shared apics
   unfolding keptOf each
   kept-own e = rw (keep-in (λ (x : Entry). not (shared x)) apic apics (rw e))
 

@@ -1,4 +1,5 @@
--- The numbers of a range that pass a test: which they are, that they rise, and that none stands twice. Assumes nothing.
+-- The numbers of a range that pass a test: which they are, that they rise, that none stands twice, and which is the first.
+-- Assumes nothing.
 use Prim.Native.Nat.{ℕ, zero, suc, _+_, _≤_, _<_}
 use mathlib.Core.Path.{_≡_, refl}
 use mathlib.Core.Bool.{Bool, true, false, true≢false}

@@ -61,7 +61,7 @@ both-has a b xs ys zs has other e = record {
   same = λ n h. rw (has .same n h, other .same n h) (or-comm (among n xs) (among n ys) ∙ sym (among-append n ys xs) ∙ e n);
 }
 
-pub both-more : (a b xs : List ℕ) → Both a b xs → (n : ℕ) → n < 256 → Both (withNumber a n) b (n ∷ xs)
+both-more : (a b xs : List ℕ) → Both a b xs → (n : ℕ) → n < 256 → Both (withNumber a n) b (n ∷ xs)
 unfolding among
 both-more a b xs both n l = record {
   size = length-put a n ∙ both .size;
@@ -85,7 +85,7 @@ keep-last p n e =
     ap (keep p) (rising-append n 1 0) ∙ keep-append p (below n) (rising 1 (n + 0))
     ∙ ap (λ (l : List ℕ). keep p (below n) ++ l) (keep-one p (n + 0) n (add-zero n) e)
 
-pub lowest-is : (a b xs : List ℕ) → Both a b xs → among everyone xs ≡ false → lowestOut a b ≡ lowestFree xs
+lowest-is : (a b xs : List ℕ) → Both a b xs → among everyone xs ≡ false → lowestOut a b ≡ lowestFree xs
 unfolding lowestFree free
 lowest-is a b xs both out =
     let p : ℕ → Bool = λ (n : ℕ). not (among n xs) in

@@ -10,7 +10,7 @@ use Rattle.sets.specs.Sets.{holds, withNumber, lowestOut}
 unfoldable pub numberIn : List ℕ → List ℕ → ℕ → ℕ
 numberIn cpus own id = cond (holds cpus id) (lowestOut own cpus) id
 
--- The I/O APICs' numbers then: with a new one it is one more.
+-- The I/O APICs' set then: with the new number, where it gets one.
 unfoldable pub ownWith : List ℕ → List ℕ → ℕ → List ℕ
 ownWith cpus own id = cond (holds cpus id) (withNumber own (lowestOut own cpus)) own
 

@@ -4,10 +4,11 @@
 // stand in mps's specs/Renumber.antt; how the code comes to the numbers, in specs/Giving.antt. A refusal leaves the room as it
 // was, 26 too: whether a number is free for each that needs one is known before the first is given, by counting.
 //
-// The used numbers are two sets of 256 bits, the processors' and the I/O APICs'. One pass puts in those of the first, one those
-// of the second: one that shares its ID has a processor's, which is used too, and every other keeps it. One more gives the
-// numbers. So the cost is that of the table, and no number is tried by itself: the lowest that is free is found by the words of
-// both sets. One set would have to be a copy of the other, which waits for all that was put in.
+// The used numbers are two sets of 256 bits, the processors' and the I/O APICs'. One pass puts in those of the first, one
+// those of the second: one that shares its ID has a processor's, which is used too, and every other keeps it. One more gives
+// the numbers. So the cost is that of the table, and no number is tried by itself: the lowest that is free is found by the
+// words of both sets. A single set of the used numbers would begin as a copy of the processors', which waits for all that was
+// put in.
 use mps::Examined;
 use mps::Renumbered;
 use mps::Sections;
@@ -41,8 +42,8 @@ pub fn renumber(t: &[u8], out: &mut [u8]) -> Renumbered
 }
 
 // The same with the places of the table. No two enabled APICs of one kind have the same ID, so the numbers that are used at
-// the end are as many as the enabled ones: 26 where these are more than there are numbers. The ones of the processors' set are
-// counted before the I/O APICs are gone over, since the pass over these does not wait for it.
+// the end are as many as the enabled ones: 26 where these are more than there are numbers. Document 01 has the ones of a set
+// counted; the processors' are counted before the I/O APICs are gone over, since the pass over these does not wait for it.
 fn of_table(t: &[u8], p: Sections, out: &mut [u8]) -> Renumbered
     requires { ⌜ (tableRefusal (now t) ≡ 0) × (Placed (now t) p) ⌝ }
     ensures { λ r. ⌜ r ≡ renumbered (now (t .entry)) (now (out .entry)) ⌝ }

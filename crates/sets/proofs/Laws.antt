@@ -1,5 +1,5 @@
 -- Laws of the sets, of any number of words: what is in one after more was put in, how many that is, and the lowest that is in
--- neither of two. Crates above need these and not how a set is stored. Assumes nothing.
+-- neither of two. None says how a set is stored; who keeps a word of one at hand needs Words too. Assumes nothing.
 use Prim.Native.Nat.{ℕ, zero, suc, _+_, _-_, _/_, _%_, _^_, _≤_, _<_}
 use mathlib.Core.Path.{_≡_, refl, sym, ap, _∙_}
 use mathlib.Core.Bool.{Bool, true, false, not, _||_, or-assoc, or-comm}
@@ -22,7 +22,7 @@ use Rattle.sets.specs.Sets.{holds, withNumber, putAll, bitsOf, members, 
 -- ---- What is in a set
 
 -- Behind its last word there is nothing, and in words that are 0 neither.
-pub holds-past : (words : List ℕ) (n : ℕ) → bitsOf words ≤ n → holds words n ≡ false
+holds-past : (words : List ℕ) (n : ℕ) → bitsOf words ≤ n → holds words n ≡ false
 unfolding holds
 holds-past words n h = rw (List·getD-eq-default words 0 {n = n / 64} (omega (arith, h))) (bit-none (n % 64))
 
@@ -104,7 +104,7 @@ members-all words m h =
 
 -- ---- The lowest that is in neither of two sets
 
--- It is in neither, where the second has no more words, and every lower one is in one.
+-- What the form promises: it is in neither, where the second has no more words, and every lower one is in one.
 module _ (a b : List ℕ) where
   abbrev low : ℕ
   low = lowestOut a b

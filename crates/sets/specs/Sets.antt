@@ -29,7 +29,8 @@ bitsOf words = 64 * length words
 unfoldable pub members : List ℕ → List ℕ
 members words = keep (holds words) (below (bitsOf words))
 
--- The lowest number that is in neither of two sets: where all are in one that the first has bits for, the first behind them.
+-- The lowest number that is in neither of two sets: where each that the first set has bits for is in one, the number behind
+-- these.
 unfoldable pub lowestOut : List ℕ → List ℕ → ℕ
 lowestOut a b = head (bitsOf a) (keep (λ (n : ℕ). not (holds a n || holds b n)) (below (bitsOf a)))
 

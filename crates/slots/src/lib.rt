@@ -131,7 +131,8 @@ fn note(set: &mut [u64], pci: &[u8; 256], s: &[u8])
     set[k] = word;
 }
 
-// How many slots are in a set.
+// How many slots are in a set. `sets::count` is of four words: of any slice it could not be public, as nothing would bound the
+// sum.
 fn count(set: &[u64]) -> usize
     requires { ⌜ length (now set) ≤ setWords ⌝ }
     ensures { λ r. ⌜ r ≡ length (members (now (set .entry))) ⌝ }
