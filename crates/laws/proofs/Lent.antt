@@ -15,7 +15,8 @@ use Rattle.mps.specs.Answers.{numberOf, lentNumbers, lentOf}
 use Rattle.mps.specs.Rooms.{tooSmall, roomRules, lentRefusal, lentLeft, roomRefusal, fitted, fitLeft}
 use Rattle.mps.specs.declared.Lent.{Lent}
 use Rattle.mps.specs.declared.Lent.the-variants.{Count, Refused}
-use Rattle.laws.proofs.Refusals.{number, so, first-none, refusal-append, refusal-pass, given-exactly, given-before}
+use Rattle.laws.proofs.Refusals.{number, so, first-some, first-none, refusal-append, refusal-pass}
+use Rattle.laws.proofs.Refusals.{given-exactly, given-before}
 use Rattle.laws.proofs.Stores.{sets-at-start}
 
 -- ---- The number
@@ -27,11 +28,7 @@ module _ (rows : List Rule) (some : among 0 (each number rows) ≡ false) where
 
   -- What the rows refuse is refused whatever the room.
   pub lent-early : {n : ℕ} (small : Bool) → refusal rows ≡ n → (n ≡ 0 → ⊥) → lentRefusal rows small ≡ n
-  lent-early {n} small e z = lent-number small ∙ rw e (some-first n z)
-    where
-      some-first : (k : ℕ) → (k ≡ 0 → ⊥) → first k (refusal (roomNumber when small ∷ [])) ≡ k
-      some-first zero g = absurd (g refl)
-      some-first (suc k) g = refl
+  lent-early {n} small e z = lent-number small ∙ rw e (first-some n _ z)
 
   -- Where they refuse nothing, the room alone decides.
   lent-late : (small : Bool) → refusal rows ≡ 0 → lentRefusal rows small ≡ lentRefusal [] small

@@ -1,7 +1,7 @@
 -- Laws of the words about lists. Assumes nothing.
 use Prim.Native.Nat.{ℕ, zero, suc, _+_, _-_, _≤_, _<_}
 use mathlib.Core.Path.{_≡_, refl, ap, sym, _∙_}
-use mathlib.Core.Bool.{Bool, true, false, _||_, _&&_, false≢true, and-false, or-true, or-assoc}
+use mathlib.Core.Bool.{Bool, true, false, _||_, _&&_, false≢true, and-false, and-assoc, or-true, or-assoc}
 use mathlib.Core.List.{List, [], _∷_, _++_}
 use native.Mathlib.Omega.{arith}
 use native.Mathlib.Nat.{sub-zero}
@@ -10,7 +10,7 @@ use lib.ListN.{length, getD, take, drop, replicate, drop-of-length-le}
 use lib.Seq.{drop-cons}
 use lib.Dec.{eqb}
 use borrow.Author.Tests.{eqb-true, eqb-false, eq-eqb}
-use Rattle.mps.specs.Words.{byte, among, keep, any, each, exactly}
+use Rattle.mps.specs.Words.{byte, among, keep, any, every, each, exactly}
 use Rattle.laws.proofs.Tests.{whether, either, or-parts}
 
 -- ---- among
@@ -111,6 +111,13 @@ module _ {A : Type 0} (p : A → Bool) (l : List A) (d : A) (i : ℕ) where
   unfolding any
   any-next h e = rw (add-one i, drop-cons l i d h, e)
 
+-- ---- every
+
+pub every-append : {A : Type 0} (p : A → Bool) (xs ys : List A) → every p (xs ++ ys) ≡ (every p xs && every p ys)
+unfolding every
+every-append p [] ys = refl
+every-append p (x ∷ xs) ys = rw (every-append p xs ys) (sym (and-assoc (p x) (every p xs) (every p ys)))
+
 -- ---- keep
 
 module _ {A : Type 0} (q : A → Bool) (x : A) (xs : List A) where
@@ -171,6 +178,11 @@ pub keep-each : {A B : Type 0} (f : A → B) (p : B → Bool) (xs : List A) → 
 unfolding keep each
 keep-each f p [] = refl
 keep-each f p (x ∷ xs) = whether (p (f x)) (λ e. rw (e, keep, each, keep-each f p xs)) (λ e. rw (e, keep, keep-each f p xs))
+
+pub every-each : {A B : Type 0} (f : A → B) (p : B → Bool) (xs : List A) → every p (each f xs) ≡ every (λ (x : A). p (f x)) xs
+unfolding every each
+every-each f p [] = refl
+every-each f p (x ∷ xs) = rw (every-each f p xs)
 
 -- A number is among those that a function makes, where it is made of some element.
 pub among-each : {A : Type 0} (x : ℕ) (f : A → ℕ) (xs : List A) → among x (each f xs) ≡ any (λ (y : A). eqb x (f y)) xs

@@ -44,6 +44,13 @@ unfolding refusal
 refusal-pass n true rows p e = absurd (omega arith)
 refusal-pass n false rows p e = (refl, e)
 
+-- Neither is any row of those in front.
+pub refusal-before : (a b : List Rule) → refusal (a ++ b) ≡ 0 → refusal a ≡ 0
+unfolding refusal
+refusal-before [] b e = refl
+refusal-before (n when true ∷ a) b e = e
+refusal-before (n when false ∷ a) b e = refusal-before a b e
+
 pub refusal-end : refusal [] ≡ 0
 unfolding refusal
 refusal-end = refl

@@ -2,7 +2,7 @@
 use Prim.Native.Nat.{ℕ, zero, suc, pred, _-_, _<_}
 use mathlib.Core.Path.{_≡_, refl}
 use mathlib.Core.Bool.{Bool, _||_}
-use mathlib.Core.List.{List, [], _∷_}
+use mathlib.Core.List.{List, [], _∷_, _++_}
 use native.Mathlib.Omega.{arith}
 use lib.ListN.{getD, set, take, drop}
 use lib.Seq.{sets}
@@ -34,6 +34,19 @@ bytes-drop (suc n) (x ∷ s) b = bytes-drop n s (λ j. b (suc j))
 
 pub bytes-part : (m n : ℕ) (s : List ℕ) → Bytes s → Bytes (part m n s)
 bytes-part m n s b = bytes-take (n - m) (drop m s) (bytes-drop m s b)
+
+-- ---- Bytes joined are bytes
+
+pub bytes-none : Bytes []
+bytes-none i = omega arith
+
+pub bytes-cons : (x : ℕ) (a : List ℕ) → x < 256 → Bytes a → Bytes (x ∷ a)
+bytes-cons x a h p zero = h
+bytes-cons x a h p (suc i) = p i
+
+pub bytes-append : (a b : List ℕ) → Bytes a → Bytes b → Bytes (a ++ b)
+bytes-append [] b p q = q
+bytes-append (x ∷ a) b p q = bytes-cons x (a ++ b) (p 0) (bytes-append a b (λ j. p (suc j)) q)
 
 -- ---- Bytes stored into bytes are bytes
 

@@ -5,8 +5,9 @@ use mathlib.Core.List.{List, [], _∷_, _++_, append-assoc}
 use native.Mathlib.Omega.{arith}
 use native.Mathlib.Nat.{zero-add, add-zero, add-suc, suc-add}
 use lib.ListN.{length, set, take, drop, replicate, take-append-drop}
-use lib.Seq.{sets, sets-eq, set-out, take-set-le, drop-set-lt, getD-take, take-set-lt, drop-set-add, drop-drop, set-set, set-comm}
-use Rattle.mps.specs.Words.{byte, part, exactly}
+use lib.Seq.{sets, sets-eq, set-out, set-set, set-comm, getD-take, take-set-le, take-set-lt, drop-set-lt, drop-set-add}
+use lib.Seq.{drop-drop, drop-append-add}
+use Rattle.mps.specs.Words.{byte, part, put, exactly}
 use Rattle.laws.proofs.Parts.{drop-take}
 use Rattle.laws.proofs.Lists.{exactly-none}
 
@@ -49,6 +50,9 @@ module _ (t : List ℕ) (at : ℕ) (w : List ℕ) where
   pub sets-part : (m n : ℕ) → n ≤ at → part m n (sets t at w) ≡ part m n t
   sets-part m n h = rw (← drop-take m n (sets t at w), sets-take t at w n h) (drop-take m n t)
 
+  pub sets-row : (i k : ℕ) → i + k ≤ at → take k (drop i (sets t at w)) ≡ take k (drop i t)
+  sets-row i k h = let e : i + k - i ≡ k = omega arith in rw e at (sets-part i (i + k) h)
+
 -- ---- Stores into a part of a list
 
 pub drop-sets : (n : ℕ) (t : List ℕ) (at : ℕ) (w : List ℕ) → drop n (sets t (n + at) w) ≡ sets (drop n t) at w
@@ -72,6 +76,20 @@ sets-set t i x at [] h = refl
 sets-set t i x at (y ∷ w) h =
     rw (sets-set (set t at y) i x (suc at) w (omega arith), set-comm t at i y x (λ e. omega arith))
 
+-- So may bytes that end before them.
+pub sets-swap : (t : List ℕ) (i : ℕ) (v : List ℕ) (j : ℕ) (w : List ℕ) → i + length v ≤ j
+    → sets (sets t j w) i v ≡ sets (sets t i v) j w
+sets-swap t i [] j w h = refl
+sets-swap t i (x ∷ v) j w h = rw (sets-set t i x j w (omega arith)) (sets-swap (set t i x) (suc i) v j w (omega arith))
+
+-- Those that end where others begin are stored with them, whichever come first.
+module _ (t : List ℕ) (i : ℕ) (v w : List ℕ) {j : ℕ} {u x : List ℕ} (e : j ≡ i + length v) where
+  pub sets-behind : u ≡ sets t i v → x ≡ sets u j w → x ≡ sets t i (v ++ w)
+  sets-behind f g = g ∙ rw (f, e) (sym (sets-append t i v w))
+
+  pub sets-before : u ≡ sets t j w → x ≡ sets u i v → x ≡ sets t i (v ++ w)
+  sets-before f g = g ∙ rw (f, sets-swap t i v j w (omega arith), e) (sym (sets-append t i v w))
+
 -- Of stores in the same places the last ones count.
 pub sets-sets : (t : List ℕ) (at : ℕ) (v w : List ℕ) → length v ≡ length w → sets (sets t at v) at w ≡ sets t at w
 sets-sets t at [] [] e = refl
@@ -80,6 +98,17 @@ sets-sets t at (x ∷ v) [] e = absurd (omega arith)
 sets-sets t at (x ∷ v) (y ∷ w) e =
     rw (sets-set (set t at x) at y (suc at) v (omega arith), set-set t at x y)
     (sets-sets (set t at y) (suc at) v w (omega arith))
+
+-- An answer that is no shorter than the one before it stands in its stead.
+pub put-put : (a b room : List ℕ) → length a ≤ length b → put b (put a room) ≡ put b room
+put-put a b room h =
+    let k = length b - length a in
+    let n : length b ≡ length a + k = omega (arith, h) in
+    ap (λ (r : List ℕ). b ++ r)
+    (ap (λ (m : ℕ). drop m (a ++ drop (length a) room)) n
+    ∙ drop-append-add a (drop (length a) room) k
+    ∙ drop-drop k (length a) room
+    ∙ ap (λ (m : ℕ). drop m room) (sym n))
 
 -- Bytes that stand there already.
 pub sets-standing : (t : List ℕ) (at : ℕ) (v : List ℕ) → at + length v ≤ length t → take (length v) (drop at t) ≡ v → sets t at v ≡ t

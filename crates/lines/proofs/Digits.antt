@@ -1,23 +1,17 @@
 -- Laws of numbers in a room: how their digits are stored, and the byte behind them. Assumes nothing.
-use Prim.Native.Nat.{ℕ, zero, suc, _+_, _-_, _*_, _/_, _%_, _≤_, _<_}
+use Prim.Native.Nat.{ℕ, zero, suc, _+_, _-_, _/_, _%_, _≤_, _<_}
 use mathlib.Core.Path.{_≡_, refl, ap, sym, _∙_}
 use mathlib.Core.List.{List, [], _∷_}
 use native.Mathlib.Omega.{arith}
 use lib.ListN.{length, set}
-use lib.Seq.{sets, set-comm}
+use lib.Seq.{sets}
 use borrow.Author.Tests.{lt-ltb, le-ltb}
 use Rattle.mps.specs.Listing.{digits, decimalDigit, hexDigit, decimalWidth, decimal, hex}
-use Rattle.laws.proofs.Stores.{sets-append}
+use Rattle.laws.proofs.Stores.{sets-append, sets-swap}
 use Rattle.text.specs.Text.{ended}
 use Rattle.text.proofs.Laws.{ended-length, length-digits}
 
 -- ---- Digits, stored from the last to the first
-
--- A store behind a word goes before it as well.
-sets-behind : (t w : List ℕ) (at j v : ℕ) → at + length w ≤ j → sets (set t j v) at w ≡ set (sets t at w) j v
-sets-behind t [] at j v h = refl
-sets-behind t (x ∷ w) at j v h =
-    rw (set-comm t j at v x (omega arith)) (sets-behind (set t at x) w (suc at) j v (omega arith))
 
 module _ (b : ℕ) (f : ℕ → ℕ) where
   digits-suc : (m n at : ℕ) (t : List ℕ)
@@ -27,7 +21,7 @@ module _ (b : ℕ) (f : ℕ → ℕ) where
       let d = digits b f m (n / b) in
       let l = length-digits b f m (n / b) in
       sets-append t at d (f (n % b) ∷ [])
-      ∙ rw l (sym (sets-behind t d at (at + m) (f (n % b)) (omega (arith, l))))
+      ∙ rw l (sym (sets-swap t at d (at + m) (f (n % b) ∷ []) (omega (arith, l))))
 
   pub digits-next : (m n at : ℕ) (t : List ℕ) → 0 < m
       → sets t at (digits b f m n) ≡ sets (set t (at + (m - 1)) (f (n % b))) at (digits b f (m - 1) (n / b))

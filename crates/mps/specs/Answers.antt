@@ -26,6 +26,12 @@ use Rattle.mps.specs.declared.Edited.{Edited}
 use Rattle.mps.specs.declared.Edited.the-variants.{Done, Refused as Edited·Refused, Inner}
 use Rattle.mps.specs.declared.Found.{Found}
 use Rattle.mps.specs.declared.Found.the-variants.{Whole, Nothing}
+use Rattle.mps.specs.declared.Booked.{Booked}
+use Rattle.mps.specs.declared.Booked.the-variants.{Book, Refused as Booked·Refused}
+use Rattle.mps.specs.declared.Latest.{Latest}
+use Rattle.mps.specs.declared.Latest.the-variants.{Edition, Refused as Latest·Refused}
+use Rattle.mps.specs.declared.Body.{Body}
+use Rattle.mps.specs.declared.Body.the-variants.{Stands, Refused as Body·Refused}
 
 -- The number of an answer is the first: the refusal's, or 0.
 abbrev pub numberOf : List ℕ → ℕ
@@ -87,6 +93,20 @@ abbrev pub foundNumbers : Found → List ℕ
 foundNumbers (Whole size) = 0 ∷ size ∷ []
 foundNumbers Nothing = 0 ∷ 0 ∷ []
 
+-- How many rows a book has, and how many bytes.
+abbrev pub bookedNumbers : Booked → List ℕ
+bookedNumbers (Book rows size) = 0 ∷ rows ∷ size ∷ []
+bookedNumbers (Booked·Refused n) = n ∷ []
+
+abbrev pub latestNumbers : Latest → List ℕ
+latestNumbers (Edition edition) = 0 ∷ edition ∷ []
+latestNumbers (Latest·Refused n) = n ∷ []
+
+-- How many bytes a body has, and where the first of them stands.
+abbrev pub bodyNumbers : Body → List ℕ
+bodyNumbers (Stands size start) = 0 ∷ size ∷ start ∷ []
+bodyNumbers (Body·Refused n) = n ∷ []
+
 -- ---- From a refusal's number, 0 for none, to an enum
 
 abbrev pub judgedOf : ℕ → Judged
@@ -124,3 +144,15 @@ editedOf (suc n) inner = cond (eqb (suc n) innerNumber) (Inner inner) (Edited·R
 abbrev pub foundOf : ℕ → Found
 foundOf zero = Nothing
 foundOf (suc n) = Whole (suc n)
+
+abbrev pub bookedOf : ℕ → ℕ → ℕ → Booked
+bookedOf zero rows size = Book rows size
+bookedOf (suc n) rows size = Booked·Refused (suc n)
+
+abbrev pub latestOf : ℕ → ℕ → Latest
+latestOf zero edition = Edition edition
+latestOf (suc n) edition = Latest·Refused (suc n)
+
+abbrev pub bodyOf : ℕ → ℕ → ℕ → Body
+bodyOf zero size start = Stands size start
+bodyOf (suc n) size start = Body·Refused (suc n)

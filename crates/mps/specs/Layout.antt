@@ -1,8 +1,9 @@
--- Layouts and limits: the offsets, widths, lengths and limits of the dump, the pointer, the table and its entries. The
--- ranges of MPS Table 4-17 stand in Ranges; the writer's header lays the fields of Table 4-2 one behind the other once more.
--- Document 01, "The dump", "The floating pointer" and "The table"; MPS 4.1 to 4.4. "Reserved bits and bytes decide nothing
--- and are kept": only byte 43 has a name, since the writer takes it. Without a name too is what no rule reads by
--- itself: the pointer's "checksum at 10", which counts in its sum, and a processor's "signature 4, features 8".
+-- Layouts and limits: the offsets, widths, lengths and limits of the dump, the pointer, the table, its entries and the book.
+-- The ranges of MPS Table 4-17 stand in Ranges; the writer's header lays the fields of Table 4-2 one behind the other once
+-- more. Document 01, "The dump", "The floating pointer" and "The table"; MPS 4.1 to 4.4; document 02 where it is named.
+-- "Reserved bits and bytes decide nothing and are kept": only byte 43 has a name, since the writer takes it. Without a name
+-- too is what no rule reads by itself: the pointer's "checksum at 10", which counts in its sum, and a processor's "signature
+-- 4, features 8".
 use Prim.Native.Nat.{ℕ, _+_, _*_, _/_, _%_, _^_}
 use mathlib.Core.Bool.{Bool, cond}
 use mathlib.Core.List.{List}
@@ -398,3 +399,37 @@ rangeList e = le 4 e 4
 
 abbrev pub rangeListMost : ℕ
 rangeListMost = 1
+
+-- ---- The book of earlier tables (document 02, ask 3)
+
+-- "At most 32,768 bytes"
+abbrev pub bookMost : ℕ
+bookMost = 32768
+
+-- "one byte of value 1 (layout), number of rows (two bytes)"
+abbrev pub bookHead : ℕ
+bookHead = 3
+
+abbrev pub bookRows : List ℕ → ℕ
+bookRows s = le 2 s 1
+
+-- "rows of machine, edition, offset and length": the first two have two bytes each, the others as many as the layout says.
+abbrev pub bookRow : ℕ → ℕ
+bookRow width = 4 + 2 * width
+
+-- The fields of the row that begins at a place.
+abbrev pub machineAt : List ℕ → ℕ → ℕ
+machineAt s at = le 2 s at
+
+abbrev pub editionAt : List ℕ → ℕ → ℕ
+editionAt s at = le 2 s (at + 2)
+
+abbrev pub bodyStart : ℕ → List ℕ → ℕ → ℕ
+bodyStart width s at = le width s (at + 4)
+
+abbrev pub bodySize : ℕ → List ℕ → ℕ → ℕ
+bodySize width s at = le width s (at + 4 + width)
+
+-- ".. or edition 65,535 is reached"
+abbrev pub editionMost : ℕ
+editionMost = 65535

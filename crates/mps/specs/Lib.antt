@@ -21,3 +21,6 @@ pub mod Listing
 pub mod Writing
 pub mod Edits
 pub mod Reader
+pub mod Book
+pub mod History
+pub mod Saving

@@ -10,7 +10,8 @@ pub data Rule : Type 0 where
 
 -- A number stands in the row that gives it, as in the paper's table. These are given or asked for in more than one place:
 
--- "base length under 44, over 4,096 or past the region", and the writer's "if the base would pass 4,096"
+-- "base length under 44, over 4,096 or past the region", and the writer's "if the base would pass 4,096"; of
+-- a book's body, "or 7 if bytes follow the table" (document 02, ask 3)
 abbrev pub baseNumber : ℕ
 baseNumber = 7
 
@@ -39,6 +40,14 @@ innerNumber = 23
 -- "query: bus not listed, address kind over 2 or interrupt type over 3"
 abbrev pub queryNumber : ℕ
 queryNumber = 24
+
+-- "27 bad book, a bad body inside it too", "28 not the latest, or an edition to restore that the book doesn't hold" (document 02,
+-- ask 3)
+abbrev pub badBookNumber : ℕ
+badBookNumber = 27
+
+abbrev pub notLatestNumber : ℕ
+notLatestNumber = 28
 
 -- The number of the first row that is so, in the order of the rows; 0 where none is.
 unfoldable pub refusal : List Rule → ℕ

@@ -81,6 +81,11 @@ module _ {A : Type 0} where
   head d [] = d
   head d (x ∷ xs) = x
 
+  -- The last element of a list, or what is given where there is none.
+  unfoldable pub last : A → List A → A
+  last d [] = d
+  last d (x ∷ xs) = last x xs
+
 module _ {A B : Type 0} where
   -- What a function makes of each element.
   unfoldable pub each : (A → B) → List A → List B

@@ -199,6 +199,27 @@ pub const RANGE_LIST_MOST: u32 = 1;
 
 pub const MODIFIED_BELOW: u64 = 65536;
 
+// ---- The book of earlier tables, layout 1 (document 02, ask 3)
+
+pub const BOOK_MOST: usize = 32768;
+
+pub const BOOK_LAYOUT: u8 = 1;
+
+pub const BOOK_COUNT: usize = 1;
+
+pub const BOOK_HEAD: usize = 3;
+
+// A row: machine, edition, where its body begins, how many bytes that has.
+pub const BOOK_ROW: usize = 8;
+
+pub const BOOK_EDITION: usize = 2;
+
+pub const BOOK_START: usize = 4;
+
+pub const BOOK_SIZE: usize = 6;
+
+pub const EDITION_MOST: u16 = 65535;
+
 // ---- Answers
 
 // A pair of a route: an ID and an input.
@@ -206,3 +227,12 @@ pub const PAIR_SIZE: usize = 2;
 
 // A slot: bus, device and pin.
 pub const SLOT_SIZE: usize = 3;
+
+// A row of a history: machine, edition, where its body begins, how many bytes that has.
+pub const HISTORY_ROW: usize = 12;
+
+pub const HISTORY_EDITION: usize = 2;
+
+pub const HISTORY_START: usize = 4;
+
+pub const HISTORY_SIZE: usize = 8;

@@ -61,7 +61,7 @@ pub enum Held {
 }
 
 // The answer of a call that is lent a room: how many stand in it, bytes of a listing or of a new table, pairs of a
-// route, or slots; or the number of the refusal. What the room then holds is said in specs/Rooms.antt.
+// route, slots, or rows of a book; or the number of the refusal. What the room then holds is said in specs/Rooms.antt.
 pub enum Lent {
     Count(usize),
     Refused(u8),
@@ -113,4 +113,23 @@ pub enum Edited {
 pub enum Found {
     Whole(usize),
     Nothing,
+}
+
+// What a book of earlier tables has, as it stands or with what was added: how many rows, and how many bytes; or the number of
+// the refusal.
+pub enum Booked {
+    Book { rows: usize, size: usize },
+    Refused(u8),
+}
+
+// The latest edition of a machine, 0 where the book has none; or the number of the refusal.
+pub enum Latest {
+    Edition(u16),
+    Refused(u8),
+}
+
+// Where the body of an edition stands in its book: how many bytes, and the place of the first; or the number of the refusal.
+pub enum Body {
+    Stands { size: usize, start: usize },
+    Refused(u8),
 }

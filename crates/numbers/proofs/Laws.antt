@@ -7,7 +7,7 @@ use native.Mathlib.Numerals.{add-one}
 use native.Mathlib.Nat.{zero-add, add-zero, suc-add, add-assoc, mul-assoc, lt-of-lt-of-le, one-le-pow, pow-le-pow-right, pow-suc, pow-succ'}
 use lib.Arith.{mod-mul}
 use lib.ListN.{length, getD, take, drop, set, List·getD-eq-default}
-use lib.Seq.{drop-append-seam, drop-cons, getD-drop, getD-take, length-take-le, sets, sets-eq}
+use lib.Seq.{drop-append-seam, drop-cons, getD-drop, getD-take, length-take-le, take-all, sets, sets-eq}
 use Rattle.mps.specs.Numbers.{le, bytes}
 use Rattle.laws.proofs.Stores.{sets-take}
 use Rattle.laws.proofs.Parts.{alike}
@@ -128,6 +128,13 @@ bytes-le (suc k) s at h b =
     let m : (getD s at 0 + 256 * le k s (at + 1)) % 256 ≡ getD s at 0 = omega (arith, b at) in
     let d : (getD s at 0 + 256 * le k s (at + 1)) / 256 ≡ le k s (at + 1) = omega (arith, b at) in
     rw (m, d, drop-cons s at 0 (omega arith), bytes-le k s (at + 1) (omega arith) b, add-one)
+
+-- What is too large for k bytes is not in them.
+pub bytes-wrap : (k n : ℕ) → bytes k (n % 256 ^ k) ≡ bytes k n
+bytes-wrap k n =
+    let b = bytes k n in
+    let l = length-bytes k n in
+    rw (← le-bytes k n) (bytes-le k b 0 (omega (arith, l)) (bytes-below k n) ∙ take-all k b (omega (arith, l)))
 
 -- ---- bytes stored
 

@@ -1,16 +1,18 @@
--- Laws of `same`, and of `sets` for a loop. Assumes nothing.
+-- Laws of `same`, and of `sets` for a loop, from the first byte or from the last. Assumes nothing.
 use Prim.Native.Nat.{ℕ, suc, _+_, _-_, _≤_, _<_}
 use mathlib.Core.Path.{_≡_, refl, ap, sym, _∙_}
 use mathlib.Core.Bool.{true, false, and-false, true≢false}
-use mathlib.Core.List.{List, [], _∷_}
+use mathlib.Core.List.{List, [], _∷_, _++_}
 use native.Mathlib.Numerals.{add-one}
 use native.Mathlib.Omega.{arith}
-use lib.ListN.{length, getD, set, drop, replicate, drop-of-length-le}
-use lib.Seq.{drop-cons, sets}
-use lib.Dec.{eqb}
-use borrow.Author.Tests.{eq-eqb, ne-eqb, eqb-true}
-use Rattle.mps.specs.Words.{same}
-use Rattle.laws.proofs.Tests.{and-parts}
+use lib.ListN.{length, getD, set, take, drop, replicate, drop-of-length-le, length-drop}
+use lib.Seq.{drop-cons, sets, take-suc, take-add, getD-drop, take-set-le, length-sets}
+use lib.Dec.{eqb, leb}
+use borrow.Author.Tests.{eq-eqb, ne-eqb, eqb-true, leb-true, leb-false}
+use Rattle.mps.specs.Words.{same, byte, part}
+use Rattle.laws.proofs.Tests.{and-parts, whether}
+use Rattle.laws.proofs.Parts.{drop-take, length-part}
+use Rattle.laws.proofs.Stores.{sets-append, sets-past, sets-swap}
 
 -- ---- same
 
@@ -82,3 +84,59 @@ module _ (t : List ℕ) (n k x : ℕ) where
 
   pub fill-next : k < n → sets t k (replicate (n - k) x) ≡ sets (set t k x) (k + 1) (replicate (n - (k + 1)) x)
   fill-next h = let e : n - k ≡ suc (n - (k + 1)) = omega arith in rw (e, add-one k)
+
+-- ---- Bytes moved up, the last one first
+
+part-snoc : (s : List ℕ) (from i : ℕ) → from ≤ i → i < length s → part from (suc i) s ≡ part from i s ++ (byte s i ∷ [])
+part-snoc s from i h k =
+    let e : suc i - from ≡ suc (i - from) = omega arith in
+    let f : from + (i - from) ≡ i = omega arith in
+    rw e
+    (take-suc (drop from s) (i - from) 0 (omega (arith, length-drop from s))
+    ∙ rw (getD-drop from s (i - from) 0, f))
+
+part-set : (s : List ℕ) (from to i x : ℕ) → to ≤ i → part from to (set s i x) ≡ part from to s
+part-set s from to i x h = rw (← drop-take from to (set s i x), take-set-le to s i x h) (drop-take from to s)
+
+-- The bytes before place i are left: none, or the last of them moves now. Those that would pass the end are none to move.
+module _ (s : List ℕ) (from by i : ℕ) where
+  pub raise-done : i ≤ from → sets s (from + by) (part from i s) ≡ s
+  raise-done h = let e : i - from ≡ 0 = omega arith in rw e
+
+  pub raise-next :
+      from ≤ i → i + by < length s
+      → sets s (from + by) (part from (suc i) s)
+      ≡ sets (set s (i + by) (byte s i)) (from + by) (part from i (set s (i + by) (byte s i)))
+  raise-next h k =
+      let l = length-part from i s (omega arith) in
+      let e : from + by + length (part from i s) ≡ i + by = omega (arith, l) in
+      rw (
+        part-snoc s from i h (omega arith),
+        sets-append s (from + by) (part from i s) (byte s i ∷ []),
+        e,
+        part-set s from i (i + by) (byte s i) (omega arith),
+      )
+      (sym (sets-swap s (from + by) (part from i s) (i + by) (byte s i ∷ []) (omega (arith, e))))
+
+  -- Nothing comes to stand past the end.
+  raise-more :
+      (to : ℕ) → from ≤ i → i ≤ to → i ≤ length s → length s ≤ i + by
+      → sets s (from + by) (part from to s) ≡ sets s (from + by) (part from i s)
+  raise-more to f h m k =
+      let e : to - from ≡ i - from + (to - i) = omega arith in
+      let v = part from i s in
+      let w = take (to - i) (drop (i - from) (drop from s)) in
+      let l : length s ≤ from + by + length v = omega (arith, length-part from i s m) in
+      rw (e, take-add (i - from) (to - i) (drop from s), sets-append s (from + by) v w)
+      (sets-past (sets s (from + by) v) (from + by + length v) w (rw (length-sets s (from + by) v) l))
+
+  pub raise-start :
+      (to : ℕ) → i ≤ to → i ≤ length s → length s ≤ i + by
+      → sets s (from + by) (part from i s) ≡ sets s (from + by) (part from to s)
+  raise-start to h m k =
+      whether
+      (leb from i)
+      (λ e. sym (raise-more to (leb-true from i e) h m k))
+      (λ e.
+      let f = leb-false from i e in
+      sets-past s (from + by) (part from i s) (omega arith) ∙ sym (sets-past s (from + by) (part from to s) (omega arith)))

@@ -1,12 +1,13 @@
-// Comparing, copying and clearing slices of bytes.
+// Comparing, copying, moving and clearing slices of bytes.
 //
-// Each function answers what one definition says, for slices of any length: `same` of mps's specs/Words.antt, and
-// `sets` and `replicate` of Rattle's lists. None has a `requires`. The laws that callers cite stand in
+// Each function answers what one definition says, for slices of any length: `same` and `part` of mps's specs/Words.antt,
+// and `sets` and `replicate` of Rattle's lists. None has a `requires`. The laws that callers cite stand in
 // proofs/Laws.antt.
 ghost use mathlib.Core.Path.{_≡_};
+ghost use Prim.Native.Nat.{_+_};
 ghost use lib.ListN.{replicate};
 ghost use lib.Seq.{sets};
-ghost use Rattle.mps.specs.Words.{same as sameBytes};
+ghost use Rattle.mps.specs.Words.{same as sameBytes, part};
 
 // Whether two slices hold the same bytes: as many of them, and equal at each place.
 pub fn same(a: &[u8], b: &[u8]) -> bool
@@ -54,5 +55,23 @@ pub fn clear(out: &mut [u8], n: usize)
         }
         out[k] = 0;
         k += 1;
+    }
+}
+
+// Moves the bytes from one place up to another by so many places, the last one first, so that they may be moved by less than
+// their number. What would come to stand past the end is not stored.
+pub fn raise(s: &mut [u8], from: usize, to: usize, by: usize)
+    ensures { λ _. ⌜ now (s .exit) ≡ sets (now (s .entry)) (from + by) (part from to (now (s .entry))) ⌝ }
+{
+    if s.len() <= by {
+        return;
+    }
+    let mut i = s.len() - by;
+    if to < i {
+        i = to;
+    }
+    while from < i {
+        i -= 1;
+        s[i + by] = s[i];
     }
 }

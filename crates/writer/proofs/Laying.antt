@@ -1,6 +1,6 @@
 -- How an image is laid, one field behind the other. Assumes nothing.
 use Prim.Native.Nat.{ℕ, _+_}
-use mathlib.Core.Path.{_≡_, refl, sym, ap, _∙_}
+use mathlib.Core.Path.{_≡_, refl, ap, _∙_}
 use mathlib.Core.List.{List, [], _∷_, _++_, append-assoc, append-nil}
 use native.Mathlib.Omega.{arith}
 use lib.ListN.{length, set, length-append, drop-of-length-le}
@@ -13,16 +13,10 @@ use Rattle.mps.specs.Writing.{Parts, baseSize, countOf, header, image, imageSiz
 use Rattle.mps.specs.Edits.{sealed}
 use Rattle.mps.specs.declared.Fields.{Fields}
 use Rattle.laws.proofs.Lists.{exactly-all, length-exactly}
-use Rattle.laws.proofs.Stores.{sets-append, sets-at-start}
+use Rattle.laws.proofs.Stores.{sets-at-start, sets-behind}
 use Rattle.numbers.proofs.Laws.{length-bytes}
 use Rattle.writer.specs.Laid.{front, rest, Room}
 use Rattle.writer.proofs.Laws.{length-header, image-sealed}
-
--- What is stored where the bytes before it end is stored with them.
-behind :
-    (t : List ℕ) (at : ℕ) (a b : List ℕ) {u v : List ℕ} {next : ℕ} → u ≡ sets t at a → next ≡ at + length a → v ≡ sets u next b
-    → v ≡ sets t at (a ++ b)
-behind t at a b e n f = f ∙ rw (e, n) (sym (sets-append t at a b))
 
 -- A store keeps the length.
 pub stays : (t : List ℕ) (at : ℕ) (w : List ℕ) {u : List ℕ} → u ≡ sets t at w → length u ≡ length t
@@ -37,9 +31,9 @@ pub front-is :
 unfolding front text
 front-is f n t {u} {v} o p i j k l =
     rw (exactly-all 8 (f .oem) o, exactly-all 12 (f .product) p)
-    (behind t 0 (text "PCMP") (bytes 2 n ++ (specRevision ∷ 0 ∷ (f .oem ++ f .product))) i (omega arith)
-    (behind u 4 (bytes 2 n) (specRevision ∷ 0 ∷ (f .oem ++ f .product)) j (omega (arith, length-bytes 2 n))
-    (behind (set (set v 6 specRevision) 7 0) 8 (f .oem) (f .product) k (omega arith) l)))
+    (sets-behind t 0 (text "PCMP") (bytes 2 n ++ (specRevision ∷ 0 ∷ (f .oem ++ f .product))) (omega arith) i
+    (sets-behind u 4 (bytes 2 n) (specRevision ∷ 0 ∷ (f .oem ++ f .product)) (omega (arith, length-bytes 2 n)) j
+    (sets-behind (set (set v 6 specRevision) 7 0) 8 (f .oem) (f .product) (omega arith) k l)))
 
 pub rest-is :
     (f : Fields) (n m s : ℕ) (t : List ℕ) {u v w x y : List ℕ} → u ≡ sets t 28 (bytes 4 (f .pointer))
@@ -47,11 +41,11 @@ pub rest-is :
     → y ≡ sets x 40 (bytes 2 m) → set (set y 42 s) 43 (f .reserved) ≡ sets t 28 (rest f n m s)
 unfolding rest
 rest-is f n m s t {u} {v} {w} {x} i j k l o =
-    behind t 28 (bytes 4 (f .pointer)) _ i (omega (arith, length-bytes 4 (f .pointer)))
-    (behind u 32 (bytes 2 (f .size)) _ j (omega (arith, length-bytes 2 (f .size)))
-    (behind v 34 (bytes 2 n) _ k (omega (arith, length-bytes 2 n))
-    (behind w 36 (bytes 4 (f .apic)) _ l (omega (arith, length-bytes 4 (f .apic)))
-    (behind x 40 (bytes 2 m) (s ∷ f .reserved ∷ []) o (omega (arith, length-bytes 2 m)) refl))))
+    sets-behind t 28 (bytes 4 (f .pointer)) _ (omega (arith, length-bytes 4 (f .pointer))) i
+    (sets-behind u 32 (bytes 2 (f .size)) _ (omega (arith, length-bytes 2 (f .size))) j
+    (sets-behind v 34 (bytes 2 n) _ (omega (arith, length-bytes 2 n)) k
+    (sets-behind w 36 (bytes 4 (f .apic)) _ (omega (arith, length-bytes 4 (f .apic))) l
+    (sets-behind x 40 (bytes 2 m) (s ∷ f .reserved ∷ []) (omega (arith, length-bytes 2 m)) o refl))))
 
 length-front : (f : Fields) (n : ℕ) → length (front f n) ≡ 28
 unfolding front text
@@ -85,9 +79,9 @@ bare-is p s out {u} {v} r e f g h =
     let both = p .base ++ p .extended in
     let whole : header p 0 s ++ both ≡ head ++ (tail ++ both) = rw (header-laid p s) (append-assoc head tail both) in
     rw (← fills out (header p 0 s ++ both) (size both (length-append (p .base) (p .extended))), whole)
-    (behind out 0 head (tail ++ both) e (omega (arith, length-front (p .fields) (baseSize p)))
-    (behind u 28 tail both f (omega (arith, length-rest (p .fields) (countOf p) (length (p .extended)) s))
-    (behind v headerSize (p .base) (p .extended) g (omega arith) h)))
+    (sets-behind out 0 head (tail ++ both) (omega (arith, length-front (p .fields) (baseSize p))) e
+    (sets-behind u 28 tail both (omega (arith, length-rest (p .fields) (countOf p) (length (p .extended)) s)) f
+    (sets-behind v headerSize (p .base) (p .extended) (omega arith) g h)))
   where
     size : (both : List ℕ) → length both ≡ length (p .base) + length (p .extended) → length (header p 0 s ++ both) ≡ length out
     size both e = omega (arith, length-append (header p 0 s) both, length-header p 0 s)
