@@ -1,0 +1,4 @@
+pub mod Moves
+pub mod Stores
+pub mod Tests
+pub mod Laws
