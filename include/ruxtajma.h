@@ -5,11 +5,11 @@
  * A slice is a pointer and a length.  The caller lends that many readable bytes
  * for the time of the call, writable ones where the pointer is not const, at any
  * alignment.  What may be written overlaps no other slice of its call: the stated
- * bytes of an edit are a copy, never those of the table itself.  A pointer is not
- * null, even where the length is 0.  Any bytes may be lent.  Nothing is allocated,
- * and nothing is kept between two calls: calls that lend different memory may run
- * at once.  Until a call returns nobody else writes what is lent to it, nor reads
- * what it may write.
+ * bytes of an edit are a copy, never those of the table itself, and the body of a
+ * save is no part of its room.  A pointer is not null, even where the length is 0.
+ * Any bytes may be lent.  Nothing is allocated, and nothing is kept between two
+ * calls: calls that lend different memory may run at once.  Until a call returns
+ * nobody else writes what is lent to it, nor reads what it may write.
  *
  * Every call but ruxtajma_addresses answers one number of this form.  Its low byte
  * is the refusal's number, 0 where there is none; its second byte is the inner
@@ -19,21 +19,23 @@
  *
  * The numbers.  A call tests them in the order in which its comment names them;
  * of 10 to 12 the first faulty entry decides, then the lower number.
- *   1  the dump breaks a rule of its own     14  local APIC address, processors
- *   2  no good floating pointer              15  buses
- *   3  the pointer's revision is not 4       16  I/O APICs
- *   4  feature byte 1 and address            17  interrupts
- *   5  no 44 bytes of header in one region   18  address spaces, links, modifiers
- *   6  not "PCMP"                            19  answer longer than the room
- *   7  base length                           20  no such place
- *   8  base sum                              21  length or type of an edit
- *   9  the table's revision is not 4         22  changed meanwhile: not as stated
- *  10  a base type over 4                    23  the edited table would be refused
- *  11  a cut entry, or the count             24  a query about an unlisted bus, or
- *  12  base types not ascending                  of an unknown kind or type
- *  13  the extended part                     25  a slot of a bus that is not PCI,
- *                                                or no such device or pin
- *                                            26  no number is free for an I/O APIC
+ *   1  the dump breaks a rule of its own     16  I/O APICs
+ *   2  no good floating pointer              17  interrupts
+ *   3  the pointer's revision is not 4       18  address spaces, links, modifiers
+ *   4  feature byte 1 and address            19  answer longer than the room
+ *   5  no 44 bytes of header in one region   20  no such place
+ *   6  not "PCMP"                            21  length or type of an edit
+ *   7  base length, or bytes behind a body   22  changed meanwhile: not as stated
+ *   8  base sum                              23  the edited table would be refused
+ *   9  the table's revision is not 4         24  a query about an unlisted bus, or
+ *  10  a base type over 4                        of an unknown kind or type
+ *  11  a cut entry, or the count             25  a slot of a bus that is not PCI,
+ *  12  base types not ascending                  or no such device or pin
+ *  13  the extended part                     26  no number is free for an I/O APIC
+ *  14  local APIC address, processors        27  a bad book, or a bad body in it
+ *  15  buses                                 28  not the latest edition, or one that
+ *                                                the book does not hold
+ *                                            29  no room for one edition more
  */
 #ifndef RUXTAJMA_H
 #define RUXTAJMA_H
@@ -60,8 +62,8 @@ static inline unsigned ruxtajma_inner(uint64_t answer)
 }
 
 /*
- * How many bytes, pairs or slots were written; or how long an entry is.  Not of
- * ruxtajma_parts and ruxtajma_renumber, which answer two values.
+ * How many bytes, pairs, slots or rows were written; or how long an entry is.  Not
+ * of the calls that answer two values, which have functions of their own for them.
  */
 static inline size_t ruxtajma_count(uint64_t answer)
 {
@@ -252,6 +254,93 @@ static inline unsigned ruxtajma_links(uint64_t answer)
 {
     return (unsigned)(answer >> 24);
 }
+
+/* ---- the book of earlier tables ---- */
+
+/*
+ * A book holds tables of several machines, each with its number, any of 16 bits,
+ * and its edition, 1, 2, 3 and so on.  It stands at the start of a room, which may
+ * be longer; what follows it is not read, and 32,768 bytes hold any book.  The
+ * empty one has three bytes: 1 (the layout), 0 and 0 (no rows).  Every call below
+ * tests the whole book first, 27, each body in it too.
+ */
+
+/*
+ * How many rows a book has, ruxtajma_rows(), and how many bytes,
+ * ruxtajma_book_size(); or 27.  Writes nothing.
+ */
+uint64_t ruxtajma_book(const uint8_t *book, size_t book_length);
+
+static inline size_t ruxtajma_rows(uint64_t answer)
+{
+    return (size_t)(answer >> 16 & 65535);
+}
+
+static inline size_t ruxtajma_book_size(uint64_t answer)
+{
+    return (size_t)(answer >> 32);
+}
+
+/*
+ * The latest edition of a machine, ruxtajma_edition(), 0 where the book has none;
+ * or 27.  Writes nothing.
+ */
+uint64_t ruxtajma_latest(const uint8_t *book, size_t book_length, uint16_t machine);
+
+static inline unsigned ruxtajma_edition(uint64_t answer)
+{
+    return (unsigned)(answer >> 16 & 65535);
+}
+
+/*
+ * Where the body of an edition stands: ruxtajma_body_size() bytes of the book from
+ * ruxtajma_body_start() on, an accepted table with nothing behind it.  27, or 28
+ * where the book does not hold it.  Writes nothing.
+ */
+uint64_t ruxtajma_body(const uint8_t *book, size_t book_length,
+                       uint16_t machine, uint16_t edition);
+
+static inline size_t ruxtajma_body_size(uint64_t answer)
+{
+    return (size_t)(answer >> 16 & 65535);
+}
+
+static inline size_t ruxtajma_body_start(uint64_t answer)
+{
+    return (size_t)(answer >> 32);
+}
+
+/*
+ * Every row of a book, in its order: machine and edition, two bytes each, where its
+ * body begins and how many bytes that has, four bytes each, the low byte first;
+ * from the room's first byte on, and what lies past them stays.  27 or 19, or the
+ * count of rows, twelve bytes each.  A room of 7,560 bytes holds them all.
+ */
+uint64_t ruxtajma_history(const uint8_t *book, size_t book_length,
+                          uint8_t *room, size_t room_length);
+
+/*
+ * Saves a table as the next edition of a machine: its row stands behind all rows
+ * and its bytes behind all bodies; every edition that the book held it holds still.
+ * `began` is the edition that its author began from, 0 for a new machine.  27; the
+ * body's own number, 5 to 18, or 7 where bytes follow its table; 28 where `began`
+ * is not the machine's latest edition now, 0 where it has none; 29 where the book
+ * would have more than 32,768 bytes or more than the room, or where the latest
+ * edition is 65,535: every byte is as it was.  Else the book's ruxtajma_rows() and
+ * ruxtajma_book_size() now; what lies past it stays.
+ */
+uint64_t ruxtajma_save(uint8_t *room, size_t room_length,
+                       uint16_t machine, uint16_t began,
+                       const uint8_t *body, size_t body_length);
+
+/*
+ * Saves an old edition of a machine once more, as its next one.  `latest` is the
+ * edition that is the latest now.  27; 28 where the book does not hold the old one,
+ * or another is the latest; 29 as of a save: every byte is as it was.  Else as
+ * ruxtajma_save.
+ */
+uint64_t ruxtajma_restore(uint8_t *room, size_t room_length,
+                          uint16_t machine, uint16_t edition, uint16_t latest);
 
 #ifdef __cplusplus
 }

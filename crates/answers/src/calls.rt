@@ -42,6 +42,23 @@ fn edited(q: &[u8], t: &mut [u8], m: &[u8]) -> u64
     )
 }
 
+// The body is the first of the slices in the middle.
+fn saved(q: &[u8], room: &mut [u8], m: &[u8]) -> u64
+    requires { ⌜ middleOf (now q) ≡ length (now m) ⌝ }
+{
+    let end = request::length(q, 1);
+    exports::ruxtajma_save(room, request::low16(q, 0), request::low16(q, 1), &m[0..end])
+}
+
+fn restored(q: &[u8], room: &mut [u8]) -> u64 {
+    exports::ruxtajma_restore(
+        room,
+        request::low16(q, 0),
+        request::low16(q, 1),
+        request::low16(q, 2),
+    )
+}
+
 fn parted(t: &[u8]) -> Answer
     ensures { λ r. ⌜ r .count ≤ 12 ⌝ }
 {
@@ -54,8 +71,25 @@ fn parted(t: &[u8]) -> Answer
 
 pub fn known(kind: u8) -> bool {
     match kind {
-        b'J' | b'D' | b'L' | b'W' | b'T' | b'E' | b'P' | b'I' | b'C' | b'R' | b'S' | b'N' | b'A' =>
-            true,
+        b'J'
+        | b'D'
+        | b'L'
+        | b'W'
+        | b'T'
+        | b'E'
+        | b'P'
+        | b'I'
+        | b'C'
+        | b'R'
+        | b'S'
+        | b'N'
+        | b'A'
+        | b'B'
+        | b'M'
+        | b'G'
+        | b'H'
+        | b'K'
+        | b'O' => true,
         _ => false,
     }
 }
@@ -82,6 +116,12 @@ pub fn call(q: &[u8], a: &mut [u8], m: &[u8], e: &mut [u8]) -> Answer
         b'R' => reply::one(exports::ruxtajma_slot_routes(a, x, y, z, e)),
         b'S' => reply::one(exports::ruxtajma_slots(a, e)),
         b'N' => reply::one(exports::ruxtajma_renumber(a, e)),
+        b'B' => reply::one(exports::ruxtajma_book(a)),
+        b'M' => reply::one(exports::ruxtajma_latest(a, request::low16(q, 0))),
+        b'G' => reply::one(exports::ruxtajma_body(a, request::low16(q, 0), request::low16(q, 1))),
+        b'H' => reply::one(exports::ruxtajma_history(a, e)),
+        b'K' => reply::one(saved(q, a, m)),
+        b'O' => reply::one(restored(q, a)),
         _ => reply::one(exports::ruxtajma_address(a, x, y, request::number(q, 2))),
     }
 }

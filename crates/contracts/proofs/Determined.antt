@@ -17,6 +17,7 @@ use Rattle.numbers.proofs.put64.Reads as numbers-put64
 use Rattle.slices.proofs.same.Reads as slices-same
 use Rattle.slices.proofs.copy.Reads as slices-copy
 use Rattle.slices.proofs.clear.Reads as slices-clear
+use Rattle.slices.proofs.raise.Reads as slices-raise
 use Rattle.tables.proofs.names.is_bus_name.Reads as tables-names-is-bus-name
 use Rattle.tables.proofs.names.is_pci.Reads as tables-names-is-pci
 use Rattle.tables.proofs.names.quick.Reads as tables-names-quick
@@ -82,6 +83,16 @@ use Rattle.writer.proofs.write.Reads as writer-write
 use Rattle.writer.proofs.parts.Reads as writer-parts
 use Rattle.writer.proofs.fields.Reads as writer-fields
 use Rattle.editor.proofs.edit.Reads as editor-edit
+use Rattle.rows.proofs.latest.Reads as rows-latest
+use Rattle.rows.proofs.find.Reads as rows-find
+use Rattle.rows.proofs.run.Reads as rows-run
+use Rattle.book.proofs.measure.Reads as book-measure
+use Rattle.book.proofs.whole.Reads as book-whole
+use Rattle.book.proofs.latest.Reads as book-latest
+use Rattle.book.proofs.body.Reads as book-body
+use Rattle.book.proofs.history.Reads as book-history
+use Rattle.saving.proofs.save.Reads as saving-save
+use Rattle.saving.proofs.restore.Reads as saving-restore
 use Rattle.routes.proofs.io.Reads as routes-io
 use Rattle.routes.proofs.local.Reads as routes-local
 use Rattle.routes.proofs.slot.Reads as routes-slot
@@ -103,6 +114,12 @@ use Rattle.exports.proofs.ruxtajma_renumber.Reads as ruxtajma-renumber
 use Rattle.exports.proofs.ruxtajma_address.Reads as ruxtajma-address
 use Rattle.exports.proofs.ruxtajma_write.Reads as ruxtajma-write
 use Rattle.exports.proofs.ruxtajma_edit.Reads as ruxtajma-edit
+use Rattle.exports.proofs.ruxtajma_book.Reads as ruxtajma-book
+use Rattle.exports.proofs.ruxtajma_latest.Reads as ruxtajma-latest
+use Rattle.exports.proofs.ruxtajma_body.Reads as ruxtajma-body
+use Rattle.exports.proofs.ruxtajma_history.Reads as ruxtajma-history
+use Rattle.exports.proofs.ruxtajma_save.Reads as ruxtajma-save
+use Rattle.exports.proofs.ruxtajma_restore.Reads as ruxtajma-restore
 
 -- ---- sums
 
@@ -148,6 +165,9 @@ slices-copy-determined κ a x y s t p q = p ∙ sym q
 
 pub slices-clear-determined : Leaves slices-clear.Post (λ κ s. now (s .0))
 slices-clear-determined κ a x y s t p q = p ∙ sym q
+
+pub slices-raise-determined : Leaves slices-raise.Post (λ κ s. now (s .0))
+slices-raise-determined κ a x y s t p q = p ∙ sym q
 
 -- ---- tables
 
@@ -400,6 +420,42 @@ writer-fields-determined κ a x y s t p q = p ∙ sym q
 pub editor-edit-determined : Determines editor-edit.Post (λ κ s. now (s .0))
 editor-edit-determined κ a x y s t p q = (p .0 ∙ sym (q .0), p .1 ∙ sym (q .1))
 
+-- ---- rows
+
+pub rows-latest-determined : Answers rows-latest.Post
+rows-latest-determined κ a x y s t p q = p ∙ sym q
+
+pub rows-find-determined : Answers rows-find.Post
+rows-find-determined κ a x y s t p q = p ∙ sym q
+
+pub rows-run-determined : Answers rows-run.Post
+rows-run-determined κ a x y s t p q = p ∙ sym q
+
+-- ---- book
+
+pub book-measure-determined : Answers book-measure.Post
+book-measure-determined κ a x y s t p q = p ∙ sym q
+
+pub book-whole-determined : Answers book-whole.Post
+book-whole-determined κ a x y s t p q = p ∙ sym q
+
+pub book-latest-determined : Answers book-latest.Post
+book-latest-determined κ a x y s t p q = p ∙ sym q
+
+pub book-body-determined : Answers book-body.Post
+book-body-determined κ a x y s t p q = p ∙ sym q
+
+pub book-history-determined : Determines book-history.Post (λ κ s. now (s .1 .0))
+book-history-determined κ a x y s t p q = (p .0 ∙ sym (q .0), p .1 ∙ sym (q .1))
+
+-- ---- saving
+
+pub saving-save-determined : Determines saving-save.Post (λ κ s. now (s .0))
+saving-save-determined κ a x y s t p q = (p .0 ∙ sym (q .0), p .1 ∙ sym (q .1))
+
+pub saving-restore-determined : Determines saving-restore.Post (λ κ s. now (s .0))
+saving-restore-determined κ a x y s t p q = (p .0 ∙ sym (q .0), p .1 ∙ sym (q .1))
+
 -- ---- routes
 
 pub routes-io-determined : Determines routes-io.Post (λ κ s. now (s .1 .1 .1 .1 .0))
@@ -474,3 +530,21 @@ ruxtajma-write-determined κ a x y s t p q = (p .0 ∙ sym (q .0), p .1 ∙ sym 
 
 pub ruxtajma-edit-determined : Determines ruxtajma-edit.Post (λ κ s. now (s .0))
 ruxtajma-edit-determined κ a x y s t p q = (p .0 ∙ sym (q .0), p .1 ∙ sym (q .1))
+
+pub ruxtajma-book-determined : Answers ruxtajma-book.Post
+ruxtajma-book-determined κ a x y s t p q = p ∙ sym q
+
+pub ruxtajma-latest-determined : Answers ruxtajma-latest.Post
+ruxtajma-latest-determined κ a x y s t p q = p ∙ sym q
+
+pub ruxtajma-body-determined : Answers ruxtajma-body.Post
+ruxtajma-body-determined κ a x y s t p q = p ∙ sym q
+
+pub ruxtajma-history-determined : Determines ruxtajma-history.Post (λ κ s. now (s .1 .0))
+ruxtajma-history-determined κ a x y s t p q = (p .0 ∙ sym (q .0), p .1 ∙ sym (q .1))
+
+pub ruxtajma-save-determined : Determines ruxtajma-save.Post (λ κ s. now (s .0))
+ruxtajma-save-determined κ a x y s t p q = (p .0 ∙ sym (q .0), p .1 ∙ sym (q .1))
+
+pub ruxtajma-restore-determined : Determines ruxtajma-restore.Post (λ κ s. now (s .0))
+ruxtajma-restore-determined κ a x y s t p q = (p .0 ∙ sym (q .0), p .1 ∙ sym (q .1))

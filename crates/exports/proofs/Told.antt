@@ -3,18 +3,19 @@
 use Prim.Native.Nat.{ℕ, zero, suc, _+_, _-_, _/_, _^_, _≤_, _<_}
 use mathlib.Core.Path.{_≡_, refl, sym, _∙_}
 use mathlib.Core.Bool.{false}
-use mathlib.Core.List.{List, [], _∷_}
+use mathlib.Core.List.{List, [], _∷_, _++_}
 use native.Mathlib.Omega.{arith}
-use lib.ListN.{length}
+use lib.ListN.{length, length-append}
 use lib.Dec.{eqb, leb}
 use Rattle.packs.specs.Packs.{packed, padded, Fit}
 use Rattle.packs.proofs.Laws.{taken-packed}
 use Rattle.mps.specs.Words.{among, any, part, first, head, below}
 use Rattle.mps.specs.Refusals.{Rule, refusal, innerNumber}
 use Rattle.mps.specs.Rooms.{roomRules, lentRefusal}
-use Rattle.mps.specs.Layout.{baseLength, extendedEnd, baseEntries}
+use Rattle.mps.specs.Layout.{baseLength, extendedEnd, baseEntries, bookMost}
 use Rattle.mps.specs.Answers.{judgedNumbers, judgedOf, heldNumbers, lentNumbers, lentOf, partedNumbers, partedOf, renumberedNumbers, renumberedOf}
 use Rattle.mps.specs.Answers.{seenNumbers, seenOf, linksOf, editedNumbers, editedOf, foundNumbers, foundOf}
+use Rattle.mps.specs.Answers.{bookedNumbers, bookedOf, latestNumbers, latestOf, bodyNumbers, bodyOf}
 use Rattle.mps.specs.Pointer.{isDefault}
 use Rattle.mps.specs.Judge.{tableRules, tableRefusal, pointerRules, dumpRules, dumpRefusal, judged, held}
 use Rattle.mps.specs.Listing.{listing, listRefusal, listed}
@@ -25,6 +26,10 @@ use Rattle.mps.specs.Routes.{Question, pairSize, routesOf, lineRules, routeRefu
 use Rattle.mps.specs.Slots.{Slot, slotRoutesOf, slotRules, slotRefusal, slotRouted, slotSize, slotsOf, slotsRefusal, slotsListed}
 use Rattle.mps.specs.Renumber.{newNumbersOf, usedNumbers, bitsSet, renumberRules, renumberRefusal, renumbered}
 use Rattle.mps.specs.Addresses.{seenBy, addressRules, seen}
+use Rattle.mps.specs.Book.{Row, layout1, latest, bodyRules, bodiesAt, bookOf, rowsOf}
+use Rattle.mps.specs.History.{bookRules, bookRefusal, booked, latestTold, editionRules, editionRefusal, bodyTold}
+use Rattle.mps.specs.History.{historyRefusal, historyTold}
+use Rattle.mps.specs.Saving.{newRow, grownBook, additionRules, grown, Ask, save, restore, addition, askRules, addRefusal, added}
 use Rattle.mps.specs.declared.Held.{Held}
 use Rattle.mps.specs.declared.Held.the-variants.{Default, Table, Refused as Held·Refused}
 use Rattle.mps.specs.declared.Parted.the-variants.{Parts as Parted·Parts}
@@ -36,8 +41,14 @@ use Rattle.laws.proofs.Lists.{keep-most}
 use Rattle.laws.proofs.Rising.{length-rising}
 use Rattle.laws.proofs.Parts.{length-part}
 use Rattle.laws.proofs.Small.{Bytes}
+use Rattle.numbers.proofs.Laws.{le-below}
 use Rattle.accepted.proofs.Sound.{sound}
 use Rattle.accepted.proofs.Numbering.{new-most}
+use Rattle.pages.proofs.Bytes.{readable1, length-book, length-rows}
+use Rattle.pages.proofs.Editions.{latest-below, held-tells}
+use Rattle.pages.proofs.Again.{rows-fit}
+use Rattle.pages.proofs.Good.{book-most}
+use Rattle.pages.proofs.Answered.{book-answered, edition-answered, add-first, addition-answered, not-full}
 use Rattle.judge.proofs.Laws.{behind-room}
 use Rattle.dump.proofs.Laws.{held-number, held-table}
 use Rattle.dump.proofs.Narrow.{default-narrow, table-narrow}
@@ -50,6 +61,7 @@ use Rattle.addresses.proofs.Refuses.{ofSeen, seen-by-raised}
 use Rattle.reader.proofs.Laws.{size-most}
 use Rattle.exports.specs.Codes.{countRow, pairRow, seenRow, heldRow, addressesRow, editedRow, coded}
 use Rattle.exports.specs.Codes.{judgedCode, lentCode, foundCode, partedCode, renumberedCode, seenCode, editedCode, heldCode, addressesCode}
+use Rattle.exports.specs.Codes.{bookedCode, latestCode, bodyCode}
 use Rattle.exports.specs.Codes.{refusalIn, valuesIn, answered, numbersIn, editedFrom, editedIn, heldFrom, heldIn}
 
 -- ---- Of any code
@@ -79,6 +91,13 @@ refused row n h = told row [] (suc n) h (omega arith)
 answer : (row values : List ℕ) → Fit row values → numbersIn row (coded row (0 ∷ values)) ≡ 0 ∷ padded row values
 answer row values f = told row values 0 (omega arith) f
 
+-- An answer that has values where its number is 0, and else the number alone.
+coded-told : (row values : List ℕ) (numbers : ℕ → List ℕ) → padded row values ≡ values → numbers 0 ≡ 0 ∷ values
+    → ((n : ℕ) → numbers (suc n) ≡ suc n ∷ []) → (n : ℕ) → n < 2 ^ 8 → (n ≡ 0 → Fit row values)
+    → numbersIn row (coded row (numbers n)) ≡ numbers n
+coded-told row values numbers p z r zero h f = rw z (answer row values (f refl) ∙ rw p)
+coded-told row values numbers p z r (suc n) h f = rw (r n) (refused row n h)
+
 -- The number that rows give has one byte if theirs have, which is computed.
 byte-below : (rows : List Rule) → any (λ (r : Rule). leb (2 ^ 8) (number r)) rows ≡ false → refusal rows < 2 ^ 8
 byte-below rows e = refusal-below (2 ^ 8) rows (omega arith) e
@@ -91,8 +110,7 @@ table-below t = byte-below (tableRules t) refl
 
 judged-told : (n : ℕ) → n < 2 ^ 8 → numbersIn [] (judgedCode (judgedOf n)) ≡ judgedNumbers (judgedOf n)
 unfolding judgedCode
-judged-told zero h = answer [] [] (omega arith)
-judged-told (suc n) h = refused [] n h
+judged-told n h = coded-told [] [] (λ k. judgedNumbers (judgedOf k)) refl refl (λ k. refl) n h (λ e. omega arith)
 
 pub judge-told : (t : List ℕ) → numbersIn [] (judgedCode (judged t)) ≡ judgedNumbers (judged t)
 unfolding judged
@@ -102,8 +120,8 @@ judge-told t = judged-told (tableRefusal t) (table-below t)
 
 lent-told : (n count : ℕ) → n < 2 ^ 8 → (n ≡ 0 → count < 2 ^ 48) → numbersIn countRow (lentCode (lentOf n count)) ≡ lentNumbers (lentOf n count)
 unfolding lentCode
-lent-told zero count h f = answer countRow (count ∷ []) (f refl, omega arith)
-lent-told (suc n) count h f = refused countRow n h
+lent-told n count h f =
+    coded-told countRow (count ∷ []) (λ k. lentNumbers (lentOf k count)) refl refl (λ k. refl) n h (λ e. (f e, omega arith))
 
 list-below : (d room : List ℕ) → listRefusal d room < 2 ^ 8
 unfolding listRefusal lentRefusal roomRules dumpRules pointerRules tableRules any
@@ -176,8 +194,8 @@ entry-told t place b = found-told (sizeAt t place) (size-most t place b)
 parted-told : (n base end : ℕ) → n < 2 ^ 8 → (n ≡ 0 → Fit pairRow (base ∷ end ∷ []))
     → numbersIn pairRow (partedCode (partedOf n (Parted·Parts base end))) ≡ partedNumbers (partedOf n (Parted·Parts base end))
 unfolding partedCode
-parted-told zero base end h f = answer pairRow (base ∷ end ∷ []) (f refl)
-parted-told (suc n) base end h f = refused pairRow n h
+parted-told n base end h f =
+    coded-told pairRow (base ∷ end ∷ []) (λ k. partedNumbers (partedOf k (Parted·Parts base end))) refl refl (λ k. refl) n h f
 
 pub parts-told : (t : List ℕ) → numbersIn pairRow (partedCode (parted t)) ≡ partedNumbers (parted t)
 unfolding parted
@@ -190,8 +208,8 @@ parts-told t =
 renumbered-told : (n count used : ℕ) → n < 2 ^ 8 → (n ≡ 0 → Fit pairRow (count ∷ used ∷ []))
     → numbersIn pairRow (renumberedCode (renumberedOf n count used)) ≡ renumberedNumbers (renumberedOf n count used)
 unfolding renumberedCode
-renumbered-told zero count used h f = answer pairRow (count ∷ used ∷ []) (f refl)
-renumbered-told (suc n) count used h f = refused pairRow n h
+renumbered-told n count used h f =
+    coded-told pairRow (count ∷ used ∷ []) (λ k. renumberedNumbers (renumberedOf k count used)) refl refl (λ k. refl) n h f
 
 renumber-below : (t room : List ℕ) → renumberRefusal t room < 2 ^ 8
 unfolding renumberRefusal renumberRules roomRules tableRules any
@@ -212,6 +230,95 @@ unfolding renumbered
 renumber-told t room b =
     renumbered-told (renumberRefusal t room) (length (newNumbersOf t)) (bitsSet (usedNumbers (baseEntries t))) (renumber-below t room)
     (λ e. (omega (arith, new-most t (renumber-accepted t room e) b), (omega (arith, bits-most (usedNumbers (baseEntries t))), omega arith)))
+
+-- ---- The book of earlier tables
+
+booked-told : (n rows size : ℕ) → n < 2 ^ 8 → (n ≡ 0 → Fit pairRow (rows ∷ size ∷ []))
+    → numbersIn pairRow (bookedCode (bookedOf n rows size)) ≡ bookedNumbers (bookedOf n rows size)
+unfolding bookedCode
+booked-told n rows size h f =
+    coded-told pairRow (rows ∷ size ∷ []) (λ k. bookedNumbers (bookedOf k rows size)) refl refl (λ k. refl) n h f
+
+-- Where a book is within its bytes, its rows are not more.
+book-fit : (rows : List Row) → length (bookOf layout1 rows) ≤ bookMost → Fit pairRow (length rows ∷ length (bookOf layout1 rows) ∷ [])
+unfolding bodiesAt
+book-fit rows h = (omega (arith, h, length-book layout1 rows), (omega (arith, h), omega arith))
+
+book-below : (s : List ℕ) → bookRefusal layout1 s < 2 ^ 8
+unfolding bookRefusal bookRules any
+book-below s = byte-below _ refl
+
+pub book-told : (s : List ℕ) → numbersIn pairRow (bookedCode (booked layout1 s)) ≡ bookedNumbers (booked layout1 s)
+unfolding booked
+book-told s =
+    booked-told (bookRefusal layout1 s) (length (rowsOf layout1 s)) (length (bookOf layout1 (rowsOf layout1 s))) (book-below s)
+    (λ e. book-fit (rowsOf layout1 s) (book-most layout1 s (book-answered layout1 s .0 e)))
+
+latest-told-of : (n edition : ℕ) → n < 2 ^ 8 → edition < 2 ^ 48
+    → numbersIn countRow (latestCode (latestOf n edition)) ≡ latestNumbers (latestOf n edition)
+unfolding latestCode
+latest-told-of n edition h f =
+    coded-told countRow (edition ∷ []) (λ k. latestNumbers (latestOf k edition)) refl refl (λ k. refl) n h (λ e. (f, omega arith))
+
+pub latest-told : (s : List ℕ) (machine : ℕ) → Bytes s
+    → numbersIn countRow (latestCode (latestTold layout1 s machine)) ≡ latestNumbers (latestTold layout1 s machine)
+unfolding latestTold
+latest-told s machine b =
+    latest-told-of (bookRefusal layout1 s) (latest machine (rowsOf layout1 s)) (book-below s)
+    (omega (arith, latest-below machine (rowsOf layout1 s) (rows-fit layout1 s b)))
+
+body-told-of : (n size start : ℕ) → n < 2 ^ 8 → (n ≡ 0 → Fit pairRow (size ∷ start ∷ []))
+    → numbersIn pairRow (bodyCode (bodyOf n size start)) ≡ bodyNumbers (bodyOf n size start)
+unfolding bodyCode
+body-told-of n size start h f =
+    coded-told pairRow (size ∷ start ∷ []) (λ k. bodyNumbers (bodyOf k size start)) refl refl (λ k. refl) n h f
+
+edition-below : (s : List ℕ) (machine edition : ℕ) → editionRefusal layout1 s machine edition < 2 ^ 8
+unfolding editionRefusal editionRules any
+edition-below s machine edition = byte-below _ refl
+
+pub body-told : (s : List ℕ) (machine edition : ℕ)
+    → numbersIn pairRow (bodyCode (bodyTold layout1 s machine edition)) ≡ bodyNumbers (bodyTold layout1 s machine edition)
+unfolding bodyTold
+body-told s machine edition =
+    body-told-of (editionRefusal layout1 s machine edition) _ _ (edition-below s machine edition)
+    (λ e.
+    let g = edition-answered layout1 s machine edition .0 e in
+    let t = held-tells layout1 machine edition s readable1 (g .0) (g .1) in
+    let m = book-most layout1 s (g .0) in
+    (omega (arith, t .begins, t .size, t .ends, m), (omega (arith, t .begins, t .size, t .ends, m), omega arith)))
+
+history-below : (s room : List ℕ) → historyRefusal layout1 s room < 2 ^ 8
+unfolding historyRefusal lentRefusal roomRules bookRules any
+history-below s room = byte-below _ refl
+
+pub history-told : (s room : List ℕ) → Bytes s
+    → numbersIn countRow (lentCode (historyTold layout1 s room)) ≡ lentNumbers (historyTold layout1 s room)
+unfolding historyTold
+history-told s room b =
+    lent-told (historyRefusal layout1 s room) (length (rowsOf layout1 s)) (history-below s room)
+    (λ e. omega (arith, length-rows layout1 s, le-below 2 s 1 b))
+
+add-below : (s : List ℕ) (ask : Ask) → addRefusal layout1 s ask < 2 ^ 8
+unfolding addRefusal askRules additionRules bookRules bodyRules tableRules editionRules any
+add-below s (save machine began body) = byte-below _ refl
+add-below s (restore machine old now) = byte-below _ refl
+
+-- What is added fits.
+added-most : (s : List ℕ) (ask : Ask) → addRefusal layout1 s ask ≡ 0 → length (grownBook layout1 s (addition layout1 s ask)) ≤ bookMost
+added-most s ask e =
+    let a = addition layout1 s ask in
+    let p = first-none (refusal (askRules layout1 s ask)) _ (sym (add-first layout1 s ask) ∙ e) in
+    not-full layout1 s a (addition-answered layout1 s a (p .1) .1) .0
+
+pub add-told : (s : List ℕ) (ask : Ask) → numbersIn pairRow (bookedCode (added layout1 s ask)) ≡ bookedNumbers (added layout1 s ask)
+unfolding added grown grownBook
+add-told s ask =
+    booked-told (addRefusal layout1 s ask) _ _ (add-below s ask) (λ e. grown-fit (added-most s ask e))
+  where
+    grown-fit : length (grownBook layout1 s (addition layout1 s ask)) ≤ bookMost
+        → Fit pairRow ((length (rowsOf layout1 s) + 1) ∷ length (grownBook layout1 s (addition layout1 s ask)) ∷ [])
+    grown-fit h = rw (length-append (rowsOf layout1 s) (newRow (addition layout1 s ask) ∷ [])) at (book-fit (rowsOf layout1 s ++ (newRow (addition layout1 s ask) ∷ [])) h)
 
 -- ---- What a bus sees: a climb refuses nothing
 

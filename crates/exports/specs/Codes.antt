@@ -7,7 +7,7 @@ use lib.Dec.{eqb}
 use Rattle.packs.specs.Packs.{packed, taken}
 use Rattle.mps.specs.Words.{exactly, only}
 use Rattle.mps.specs.Refusals.{innerNumber}
-use Rattle.mps.specs.Answers.{judgedNumbers, lentNumbers, foundNumbers, partedNumbers, renumberedNumbers, seenNumbers, editedNumbers}
+use Rattle.mps.specs.Answers.{judgedNumbers, lentNumbers, foundNumbers, partedNumbers, renumberedNumbers, seenNumbers, editedNumbers, bookedNumbers, latestNumbers, bodyNumbers}
 use Rattle.mps.specs.declared.Fields.{Fields}
 use Rattle.mps.specs.declared.Judged.{Judged}
 use Rattle.mps.specs.declared.Lent.{Lent}
@@ -16,6 +16,9 @@ use Rattle.mps.specs.declared.Parted.{Parted}
 use Rattle.mps.specs.declared.Renumbered.{Renumbered}
 use Rattle.mps.specs.declared.Seen.{Seen}
 use Rattle.mps.specs.declared.Edited.{Edited}
+use Rattle.mps.specs.declared.Booked.{Booked}
+use Rattle.mps.specs.declared.Latest.{Latest}
+use Rattle.mps.specs.declared.Body.{Body}
 use Rattle.mps.specs.declared.Held.{Held}
 use Rattle.mps.specs.declared.Held.the-variants.{Default, Table, Refused}
 
@@ -24,7 +27,8 @@ use Rattle.mps.specs.declared.Held.the-variants.{Default, Table, Refused}
 abbrev pub countRow : List ℕ
 countRow = 48 ∷ []
 
--- Where the parts of a table end; how many numbers are given, and how many used.
+-- Where the parts of a table end; how many numbers are given, and how many used; the rows and the bytes of a book; how long a
+-- body is, and where it begins.
 abbrev pub pairRow : List ℕ
 pairRow = 16 ∷ 32 ∷ []
 
@@ -62,6 +66,15 @@ partedCode answer = coded pairRow (partedNumbers answer)
 
 unfoldable pub renumberedCode : Renumbered → ℕ
 renumberedCode answer = coded pairRow (renumberedNumbers answer)
+
+unfoldable pub bookedCode : Booked → ℕ
+bookedCode answer = coded pairRow (bookedNumbers answer)
+
+unfoldable pub latestCode : Latest → ℕ
+latestCode answer = coded countRow (latestNumbers answer)
+
+unfoldable pub bodyCode : Body → ℕ
+bodyCode answer = coded pairRow (bodyNumbers answer)
 
 unfoldable pub seenCode : Seen → ℕ
 seenCode answer = coded seenRow (seenNumbers answer)

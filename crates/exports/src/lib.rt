@@ -3,16 +3,19 @@
 // include/ruxtajma.h has the prototypes, what a caller lends, and how an answer is taken apart. Promised of any bytes: each
 // call answers what the call of the library does, as one number, and leaves what was lent as that call leaves it. Which
 // number stands for an answer is in specs/Codes.antt, a row of widths for each kind; the definitions of the answers stand in
-// mps's specs/Judge.antt, Listing.antt, Writing.antt, Edits.antt, Reader.antt, Routes.antt, Slots.antt, Renumber.antt and
-// Addresses.antt.
+// mps's specs/Judge.antt, Listing.antt, Writing.antt, Edits.antt, Reader.antt, Routes.antt, Slots.antt, Renumber.antt,
+// Addresses.antt, History.antt and Saving.antt.
 //
 // Nothing is lost: of every answer that a call can give, C takes out the numbers that mps's specs/Answers.antt has for it.
 // proofs/Told.antt proves it, a theorem for each call. A function below cuts each value to its width, and so needs to know
 // nothing of the call that its answer comes from; that nothing is there to cut is part of the same theorems.
+use mps::Body;
+use mps::Booked;
 use mps::Edited;
 use mps::Fields;
 use mps::Found;
 use mps::Held;
+use mps::Latest;
 use mps::Lent;
 use mps::Parted;
 use mps::Renumbered;
@@ -29,9 +32,12 @@ ghost use Rattle.mps.specs.Addresses.{seen};
 ghost use Rattle.mps.specs.Writing.{written, writeLeft, parted};
 ghost use Rattle.mps.specs.Edits.{edited, editLeft};
 ghost use Rattle.mps.specs.Reader.{found};
+ghost use Rattle.mps.specs.Book.{layout1};
+ghost use Rattle.mps.specs.History.{booked, latestTold, bodyTold, historyTold, historyLeft};
+ghost use Rattle.mps.specs.Saving.{save, restore, added, addLeft};
 ghost use Rattle.writer.specs.Laid.{partsGiven};
 ghost use Rattle.editor.specs.Tested.{editOf};
-ghost use Rattle.exports.specs.Codes.{judgedCode, lentCode, seenCode, editedCode, heldCode, addressesCode, partedCode, renumberedCode, foundCode, fieldsGiven};
+ghost use Rattle.exports.specs.Codes.{judgedCode, lentCode, seenCode, editedCode, heldCode, addressesCode, partedCode, renumberedCode, foundCode, bookedCode, latestCode, bodyCode, fieldsGiven};
 
 // ---- An answer as one number
 
@@ -74,7 +80,7 @@ fn found_code(answer: Found) -> u64
     }
 }
 
-// Two values, by the widths of `pairRow`: of the parts of a table and of new numbers.
+// Two values, by the widths of `pairRow`: of the parts of a table, of new numbers, of a book and of a body in it.
 fn pair(first: usize, second: usize) -> u64
     ensures { λ r. ⌜ r ≡ 2 ^ 16 * (first % 2 ^ 16 + 2 ^ 16 * (second % 2 ^ 32)) ⌝ }
 {
@@ -96,6 +102,33 @@ fn renumbered_code(answer: Renumbered) -> u64
     match answer {
         Renumbered::Given { count, used } => pair(count, used),
         Renumbered::Refused(n) => n as u64,
+    }
+}
+
+fn booked_code(answer: Booked) -> u64
+    ensures { λ r. ⌜ r ≡ bookedCode answer ⌝ }
+{
+    match answer {
+        Booked::Book { rows, size } => pair(rows, size),
+        Booked::Refused(n) => n as u64,
+    }
+}
+
+fn latest_code(answer: Latest) -> u64
+    ensures { λ r. ⌜ r ≡ latestCode answer ⌝ }
+{
+    match answer {
+        Latest::Edition(edition) => above(edition as u64),
+        Latest::Refused(n) => n as u64,
+    }
+}
+
+fn body_code(answer: Body) -> u64
+    ensures { λ r. ⌜ r ≡ bodyCode answer ⌝ }
+{
+    match answer {
+        Body::Stands { size, start } => pair(size, start),
+        Body::Refused(n) => n as u64,
     }
 }
 
@@ -312,4 +345,51 @@ pub extern "C" fn ruxtajma_edit(t: &mut [u8], place: usize, stated: &[u8], wante
     ensures { λ _. ⌜ now (t .exit) ≡ editLeft (now (t .entry)) (editOf place (now (stated .entry)) (now (wanted .entry))) ⌝ }
 {
     edited_code(editor::edit(t, place, stated, wanted))
+}
+
+// ---- The book of earlier tables
+
+#[no_mangle]
+pub extern "C" fn ruxtajma_book(s: &[u8]) -> u64
+    ensures { λ r. ⌜ r ≡ bookedCode (booked layout1 (now (s .entry))) ⌝ }
+{
+    booked_code(book::measure(s))
+}
+
+#[no_mangle]
+pub extern "C" fn ruxtajma_latest(s: &[u8], machine: u16) -> u64
+    ensures { λ r. ⌜ r ≡ latestCode (latestTold layout1 (now (s .entry)) machine) ⌝ }
+{
+    latest_code(book::latest(s, machine))
+}
+
+#[no_mangle]
+pub extern "C" fn ruxtajma_body(s: &[u8], machine: u16, edition: u16) -> u64
+    ensures { λ r. ⌜ r ≡ bodyCode (bodyTold layout1 (now (s .entry)) machine edition) ⌝ }
+{
+    body_code(book::body(s, machine, edition))
+}
+
+#[no_mangle]
+pub extern "C" fn ruxtajma_history(s: &[u8], room: &mut [u8]) -> u64
+    ensures { λ r. ⌜ r ≡ lentCode (historyTold layout1 (now (s .entry)) (now (room .entry))) ⌝ }
+    ensures { λ _. ⌜ now (room .exit) ≡ historyLeft layout1 (now (s .entry)) (now (room .entry)) ⌝ }
+{
+    lent_code(book::history(s, room))
+}
+
+#[no_mangle]
+pub extern "C" fn ruxtajma_save(room: &mut [u8], machine: u16, began: u16, body: &[u8]) -> u64
+    ensures { λ r. ⌜ r ≡ bookedCode (added layout1 (now (room .entry)) (save machine began (now (body .entry)))) ⌝ }
+    ensures { λ _. ⌜ now (room .exit) ≡ addLeft layout1 (now (room .entry)) (save machine began (now (body .entry))) ⌝ }
+{
+    booked_code(saving::save(room, machine, began, body))
+}
+
+#[no_mangle]
+pub extern "C" fn ruxtajma_restore(room: &mut [u8], machine: u16, edition: u16, latest: u16) -> u64
+    ensures { λ r. ⌜ r ≡ bookedCode (added layout1 (now (room .entry)) (restore machine edition latest)) ⌝ }
+    ensures { λ _. ⌜ now (room .exit) ≡ addLeft layout1 (now (room .entry)) (restore machine edition latest) ⌝ }
+{
+    booked_code(saving::restore(room, machine, edition, latest))
 }
