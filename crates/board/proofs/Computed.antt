@@ -2,7 +2,7 @@
 -- Computing with the definitions: `unfolding computed` opens every definition of mps at once, so that a claim over closed
 -- bytes is settled by computing both sides. What a definition's own `unfolding` line names is opened with it.
 use Prim.Native.Nat.{ℕ}
-use Rattle.mps.specs.Words.{text, bit, same, among, twice, keep, any, every, each, joined, rising, cut, exactly}
+use Rattle.mps.specs.Words.{text, bit, same, among, twice, keep, any, every, last, each, joined, rising, cut, exactly}
 use Rattle.mps.specs.Refusals.{refusal}
 use Rattle.mps.specs.Rooms.{tooSmall, roomRules, lentRefusal, lentLeft, roomRefusal, fitted, fitLeft}
 use Rattle.mps.specs.Sums.{total, sum256, toStore}
@@ -24,9 +24,12 @@ use Rattle.mps.specs.Listing.{digits, decimalDigit, hexDigit, decimalWidth, dec
 use Rattle.mps.specs.Writing.{fieldsOf, partsOf, parted, header, extendedSumOf, baseSumOf, image, partRules, earlyRefusal, writeRefusal, written, finished, writeLeft}
 use Rattle.mps.specs.Edits.{standing, before, offsetOf, sealed, editedTable, noPlace, otherShape, changed, innerRefusal, editRules, editRefusal, edited, editLeft, run, runAnswers}
 use Rattle.mps.specs.Reader.{baseStep, extendedStep, sizeAt, entryAt, nextPlace, found}
+use Rattle.mps.specs.Book.{ofMachine, latest, editionsRun, bodyRules, bodyRefusal, goodBody, bodiesAt, rowsFrom, bookOf, rowAt, rowsAt, rowsOf, begins, goodBook, badBook}
+use Rattle.mps.specs.History.{bookRules, bookRefusal, booked, latestTold, isEdition, holdsEdition, editionBody, editionStart, editionRules, editionRefusal, bodyTold, historyOf, historyRefusal, historyTold, historyLeft}
+use Rattle.mps.specs.Saving.{newRow, grownBook, notLatest, bookFull, additionRules, grown, addition, askRules, addRefusal, added, addLeft, addRun, addAnswers}
 
 ofWords : ℕ
-unfolding text bit same among twice keep any every each joined rising cut exactly
+unfolding text bit same among twice keep any every last each joined rising cut exactly
 ofWords = 0
 
 ofRefusals : ℕ
@@ -113,6 +116,18 @@ ofReader : ℕ
 unfolding baseStep extendedStep sizeAt entryAt nextPlace found
 ofReader = 0
 
+ofBook : ℕ
+unfolding ofMachine latest editionsRun bodyRules bodyRefusal goodBody bodiesAt rowsFrom bookOf rowAt rowsAt rowsOf begins goodBook badBook
+ofBook = 0
+
+ofHistory : ℕ
+unfolding bookRules bookRefusal booked latestTold isEdition holdsEdition editionBody editionStart editionRules editionRefusal bodyTold historyOf historyRefusal historyTold historyLeft
+ofHistory = 0
+
+ofSaving : ℕ
+unfolding newRow grownBook notLatest bookFull additionRules grown addition askRules addRefusal added addLeft addRun addAnswers
+ofSaving = 0
+
 unfoldable pub computed : ℕ
-unfolding ofWords ofRefusals ofRooms ofSums ofNumbers ofLayout ofBuses ofRanges ofDump ofPointer ofTable ofRules ofSections ofJudge ofRoutes ofSlots ofRenumber ofAddresses ofListing ofWriting ofEdits ofReader
+unfolding ofWords ofRefusals ofRooms ofSums ofNumbers ofLayout ofBuses ofRanges ofDump ofPointer ofTable ofRules ofSections ofJudge ofRoutes ofSlots ofRenumber ofAddresses ofListing ofWriting ofEdits ofReader ofBook ofHistory ofSaving
 computed = 0

@@ -3,4 +3,5 @@ pub mod Printed
 pub mod Cases
 pub mod Slots
 pub mod Renumber
+pub mod Book
 pub mod Bench

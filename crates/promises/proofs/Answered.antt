@@ -13,7 +13,7 @@ use Rattle.mps.specs.Pointer.{isDefault}
 use Rattle.mps.specs.Judge.{told}
 use Rattle.mps.specs.Addresses.{seenBy}
 use Rattle.mps.specs.Answers.{numberOf, judgedNumbers, judgedOf, examinedNumbers, examinedOf, heldNumbers, heldOf, partedNumbers, partedOf, seenNumbers, seenOf, editedNumbers, editedOf}
-use Rattle.mps.specs.Answers.{renumberedNumbers, renumberedOf}
+use Rattle.mps.specs.Answers.{renumberedNumbers, renumberedOf, bookedNumbers, bookedOf, latestNumbers, latestOf, bodyNumbers, bodyOf}
 use Rattle.mps.specs.declared.Sections.{Sections}
 use Rattle.mps.specs.declared.Parted.the-variants.{Parts}
 use Rattle.mps.specs.declared.Renumbered.{Renumbered}
@@ -78,3 +78,16 @@ pub renumbered-given : (m count used : ℕ) {n bits : ℕ} → Given n bits ≡ 
 unfolding valueAt values
 renumbered-given zero count used e = (refl, ap (valueAt 1) e, ap (valueAt 2) e)
 renumbered-given (suc m) count used e = absurd (omega (arith, ap values e))
+
+-- The book of earlier tables: rows and bytes, an edition, where a body stands.
+pub booked-of : (rows size n : ℕ) → numberOf (bookedNumbers (bookedOf n rows size)) ≡ n
+booked-of rows size zero = refl
+booked-of rows size (suc n) = refl
+
+pub latest-of : (edition n : ℕ) → numberOf (latestNumbers (latestOf n edition)) ≡ n
+latest-of edition zero = refl
+latest-of edition (suc n) = refl
+
+pub body-of : (size start n : ℕ) → numberOf (bodyNumbers (bodyOf n size start)) ≡ n
+body-of size start zero = refl
+body-of size start (suc n) = refl

@@ -14,6 +14,7 @@ use Rattle.mps.specs.Words.{text, flag, keep, same, any, every, none, each, joi
 use Rattle.mps.specs.Buses.{busNames, isBusName}
 use Rattle.mps.specs.Listing.{digits, decimalDigit, hexDigit, decimalWidth, decimal, hex, line, unpadded}
 use Rattle.laws.proofs.Tests.{whether, either, and-parts}
+use Rattle.laws.proofs.Lists.{every-append}
 use Rattle.slices.proofs.Laws.{same-true}
 use Rattle.text.proofs.Laws.{length-digits, width-is}
 use Rattle.promises.specs.Shown.{value, decimalValue, hexValue, padded, placeOf, onFirst, pieces, readLines}
@@ -104,14 +105,6 @@ lines-again [] i j e = refl
 lines-again (fs ∷ ls) zero j e = again-at fs j (and-parts (every readable fs) _ e .0)
 lines-again (fs ∷ ls) (suc i) j e = lines-again ls i j (and-parts (every readable fs) _ e .1)
 
--- ---- every
-
-module _ {A : Type 0} (p : A → Bool) where
-  pub every-append : (xs ys : List A) → every p xs ≡ true → every p ys ≡ true → every p (xs ++ ys) ≡ true
-  unfolding every
-  every-append [] ys e f = f
-  every-append (x ∷ xs) ys e f = let q = and-parts (p x) (every p xs) e in rw (q .0) (every-append xs ys (q .1) f)
-
 -- ---- Words that are visible
 
 some-byte : (w : List ℕ) → 0 < length w → none w ≡ false
@@ -123,8 +116,8 @@ module _ (b : ℕ) (f : ℕ → ℕ) (high : (d : ℕ) → 32 < f d) where
   unfolding digits every
   digits-high zero n = refl
   digits-high (suc k) n =
-      every-append (λ c. ltb 32 c) (digits b f k (n / b)) (f (n % b) ∷ []) (digits-high k (n / b))
-      (rw (lt-ltb 32 (f (n % b)) (high (n % b))))
+      every-append (λ c. ltb 32 c) (digits b f k (n / b)) (f (n % b) ∷ [])
+      ∙ rw (digits-high k (n / b), lt-ltb 32 (f (n % b)) (high (n % b)))
 
   digits-visible : (k n : ℕ) → 0 < k → visible (digits b f k n) ≡ true
   unfolding visible
@@ -235,7 +228,7 @@ spaced-above (w ∷ []) e = visible-above 10 w (omega arith) (visible-parts w []
 spaced-above (w ∷ v ∷ ws) e =
     let q = visible-parts w (v ∷ ws) e in
     every-append (λ x. ltb 10 x) w (32 ∷ spaced (v ∷ ws))
-    (visible-above 10 w (omega arith) (q .1)) (spaced-above (v ∷ ws) (q .2))
+    ∙ rw (visible-above 10 w (omega arith) (q .1)) (spaced-above (v ∷ ws) (q .2))
 
 words-apart : (ws : List (List ℕ)) → every visible ws ≡ true → pieces 32 (spaced ws) ≡ ws
 unfolding spaced pieces

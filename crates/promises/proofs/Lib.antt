@@ -21,3 +21,7 @@ pub mod Listed
 pub mod Fresh
 pub mod Runs
 pub mod Back
+pub mod BookNumbers
+pub mod GoodBooks
+pub mod Books
+pub mod BookReads

@@ -5,7 +5,7 @@ use mathlib.Core.Path.{_≡_, refl, sym, _∙_}
 use mathlib.Core.Bool.{Bool, true, false, not, _&&_, _||_}
 use mathlib.Core.List.{List, [], _∷_, _++_, append-nil}
 use native.Mathlib.Omega.{arith}
-use lib.ListN.{length, getD, take, drop}
+use lib.ListN.{getD, take}
 use lib.Seq.{take-at}
 use lib.Dec.{ltb, eqb}
 use borrow.Author.Tests.{ltb-false, eq-eqb, ne-eqb, eqb-false, not-false}
@@ -31,7 +31,7 @@ use Rattle.mps.specs.declared.Lent.the-variants.{Count}
 use Rattle.laws.proofs.Tests.{whether, or-parts}
 use Rattle.laws.proofs.Refusals.{first-none, refusal-pass}
 use Rattle.laws.proofs.Lent.{count-given}
-use Rattle.laws.proofs.Lists.{any-keep}
+use Rattle.laws.proofs.Lists.{every-append, any-keep}
 use Rattle.laws.proofs.Joined.{joined-append, joined-same, joined-each}
 use Rattle.laws.proofs.Small.{Bytes, Small, small-none, small-more, small-cut, small-base, bytes-part, any-or}
 use Rattle.numbers.proofs.Laws.{le-below}
@@ -45,7 +45,7 @@ use Rattle.promises.specs.Shown.{Field, word, number, shown, Again, visi
 use Rattle.promises.specs.Shown.{states, ranks, kinds, interruptFields, baseFields, extendedFields, tableFields}
 use Rattle.promises.specs.Shown.{linesTold, readLines}
 use Rattle.promises.proofs.Kept.{list-shown}
-use Rattle.promises.proofs.Legible.{every-append, lines-again, lines-apart}
+use Rattle.promises.proofs.Legible.{lines-again, lines-apart}
 use Rattle.promises.proofs.Legible.{word-readable, number-readable, address-readable, name-readable}
 use Rattle.promises.proofs.Legible.{state-readable, rank-readable, kind-readable}
 
@@ -342,7 +342,8 @@ table-readable p b a t small r h k l =
       number-readable (extendedLength t) (extended-below t small),
       number-readable (entryCount t) (le-below 2 t 34 small),
     )
-    (every-append _ (each baseFields es) _ base (every-append _ (each extendedFields (extendedEntries t)) _ extended end))
+    (every-append _ (each baseFields es) _
+    ∙ rw base (every-append _ (each extendedFields (extendedEntries t)) _ ∙ rw extended end))
 
 -- ---- What the listing program writes for any dump, and what the listing of an accepted one is
 

@@ -1,5 +1,7 @@
+pub mod Books
 pub mod Climbed
 pub mod Declared
+pub mod GoodBooks
 pub mod IoApics
 pub mod Numbered
 pub mod Renumber

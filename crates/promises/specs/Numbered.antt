@@ -61,3 +61,20 @@ laterNumbers = 10 ∷ 11 ∷ 12 ∷ 13 ∷ 14 ∷ 15 ∷ 16 ∷ 17 ∷ 18 ∷ []
 
 abbrev pub writeNumbers : List ℕ
 writeNumbers = 7 ∷ 13 ∷ 19 ∷ laterNumbers
+
+-- The book of earlier tables (document 02, ask 3): "27 bad book ..; then the new body's own number, or 7 if bytes follow the
+-- table; 28 not the latest, or an edition to restore that the book doesn't hold; 29 ..".
+abbrev pub bookNumbers : List ℕ
+bookNumbers = 27 ∷ []
+
+abbrev pub editionNumbers : List ℕ
+editionNumbers = 27 ∷ 28 ∷ []
+
+abbrev pub historyNumbers : List ℕ
+historyNumbers = 27 ∷ 19 ∷ []
+
+abbrev pub saveNumbers : List ℕ
+saveNumbers = 27 ∷ tableNumbers ++ (7 ∷ 28 ∷ 29 ∷ [])
+
+abbrev pub restoreNumbers : List ℕ
+restoreNumbers = 27 ∷ 28 ∷ 29 ∷ []
