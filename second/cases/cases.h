@@ -271,6 +271,90 @@ void gen_numbered(struct rng *r, struct test_case *c);
 /* Works out what is to be answered, word by word from the paper. */
 void expect_numbers(struct asked *a, struct numbering *n);
 
+/* ---- books of earlier tables ---- */
+
+enum {
+    BOOK_LIMIT = 32768,
+    BOOK_HEAD = 3, BOOK_ROW = 8,     /* bytes before the rows, and of each */
+    SMALLEST = HEADER + 20,          /* a table: its header and a processor */
+    KEPT_MAX = 640,                  /* rows; no good book has more than 455 */
+    TOLD_ROW = 12,                   /* bytes of a row in a history */
+    BODIES_ROOM = 2 * BOOK_LIMIT,    /* a bad one can pass the limit */
+    BOOK_ROOM = 73728
+};
+
+/* A book as a list: offsets and the number of rows are worked out from it. */
+struct book {
+    size_t rows, size;               /* and how many bytes all bodies have */
+    struct kept {
+        uint16_t machine, edition;
+        size_t at, length;           /* of its body among these */
+    } row[KEPT_MAX];
+    uint8_t bodies[BODIES_ROOM];
+};
+
+/* A book at the start of a room. */
+struct book_case {
+    const char *label;
+    int expected;                    /* 0, 27, or -1 where not known beforehand */
+    struct book k;                   /* where it is 0 */
+    size_t size;                     /* of the room */
+    uint8_t bytes[BOOK_ROOM];
+};
+
+/* How many bytes the book of a list has; and the book itself. */
+size_t book_size(const struct book *k);
+size_t lay_book(const struct book *k, uint8_t *out);
+
+/* Where a row's body begins in it. */
+size_t body_start(const struct book *k, const struct kept *e);
+
+/* The highest edition of a machine, or 0; and the row of an edition, or NULL. */
+uint16_t latest_edition(const struct book *k, uint16_t machine);
+const struct kept *row_of(const struct book *k, uint16_t machine, uint16_t edition);
+
+/* All rows as a history has them; answers how many bytes. */
+size_t tell_rows(const struct book *k, uint8_t *out);
+
+/* Adds a body as the next edition of a machine. */
+void keep_body(struct book *k, uint16_t machine, const uint8_t *body, size_t n);
+
+/* A save, or a restore. */
+struct change {
+    const char *label;
+    bool restores;
+    uint16_t machine;
+    uint16_t edition;                /* to restore */
+    uint16_t latest;                 /* by its author: began from, or the latest */
+    struct test_case body;           /* to save */
+    int expected;                    /* 0, 5 to 18, 28, 29, or -1 */
+};
+
+/* Works out its answer in a room of a size, word by word from the paper. */
+void expect_change(const struct book *k, size_t size, struct change *c);
+
+/* One that was accepted. */
+void keep_change(struct book *k, const struct change *c);
+
+/* A change of any kind of a good book in a room of a size; what it names. */
+void gen_change(struct rng *r, const struct book *k, size_t size, struct change *c);
+uint16_t any_machine(struct rng *r, const struct book *k);
+uint16_t any_edition(struct rng *r, const struct book *k, uint16_t machine);
+
+/* A table of just so many bytes: 64, or 66 to 8,192. */
+void sized_table(struct rng *r, struct builder *b, size_t n);
+
+/* Adds rows until the book has just so many bytes, of small tables or of large. */
+void fill_book(struct rng *r, struct book *k, size_t goal, bool small);
+
+/* The list's book, which is good, in a room with any bytes behind it. */
+void finish_book(struct rng *r, struct book_case *c, const char *label, size_t size);
+
+/* Books: a good one; one with a fault, by its number, false past the last; any. */
+void good_book(struct rng *r, struct book_case *c);
+bool book_fault_case(struct rng *r, size_t number, struct book_case *c);
+void gen_book(struct rng *r, struct book_case *c);
+
 /* ---- buffers that state any lengths, and places in them, for entry readers ---- */
 
 /* A table of any kind, sound more often than not. */

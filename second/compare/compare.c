@@ -18,7 +18,7 @@ enum { THOROUGH = 100000 };   /* COUNT from which on the fixed cases are all mad
 bool thorough;
 
 static sort_of_cases *const sorts[] = {
-    tables, dumps, parts, edits, queries, entries, slots, numbers,
+    tables, dumps, parts, edits, queries, entries, slots, numbers, books,
 };
 
 int main(int argc, char **argv)

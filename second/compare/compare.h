@@ -19,7 +19,8 @@ static inline int each(void)
 
 typedef void sort_of_cases(struct rng *r, number count, const char *seed);
 
-sort_of_cases tables, dumps, parts, edits, queries, entries, slots, numbers;
+sort_of_cases tables, dumps, parts, edits, queries, entries, slots, numbers,
+              books;
 
 /* Reads one dump, and lists it into rooms of several sizes. */
 void list_dump(struct rng *r, const struct dump_case *d);
@@ -66,5 +67,26 @@ void renumber_in_every_room(const struct numbering *n, size_t most);
 
 /* The bench board, keepers late, APICs that are off, no number free, and others. */
 void fixed_numbers(struct rng *r);
+
+/* A book in its room: what follows is about it, as accepted changes leave it. */
+void open_book(struct book_case *c);
+
+/* Its rows and bytes; the latest edition of a machine; the body of an edition. */
+void ask_rows(void);
+void ask_latest(struct rng *r, uint16_t machine);
+void ask_body(struct rng *r, uint16_t machine, uint16_t edition);
+
+/* Its history, in rooms of several sizes; or in every one from 0 bytes to so many. */
+void ask_history(struct rng *r);
+void history_in_every_room(size_t most);
+
+/* A save or a restore. */
+void change_book(struct rng *r, const struct change *c);
+
+/* One question of each kind, and of a bad book also a save and a restore. */
+void ask_all_of_book(struct rng *r);
+
+/* The empty book, each fault, full ones, machines of all numbers, and others. */
+void fixed_books(struct rng *r);
 
 #endif

@@ -83,6 +83,24 @@ void our_call(const struct request *q, struct reply *a)
     case 'A':
         give(a, ruxtajma_address(LENT(q, 0), BYTE(0), BYTE(1), q->number[2]));
         break;
+    case 'B':
+        give(a, ruxtajma_book(LENT(q, 0)));
+        break;
+    case 'M':
+        give(a, ruxtajma_latest(LENT(q, 0), SHORT(0)));
+        break;
+    case 'G':
+        give(a, ruxtajma_body(LENT(q, 0), SHORT(0), SHORT(1)));
+        break;
+    case 'H':
+        give(a, ruxtajma_history(LENT(q, 0), LENT(q, ROOM)));
+        break;
+    case 'K':
+        give(a, ruxtajma_save(LENT(q, 0), SHORT(0), SHORT(1), LENT(q, 1)));
+        break;
+    case 'O':
+        give(a, ruxtajma_restore(LENT(q, 0), SHORT(0), SHORT(1), SHORT(2)));
+        break;
     default:
         break;
     }

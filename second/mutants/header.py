@@ -20,6 +20,11 @@ HEADER = [
  *of("extended_end", "(size_t)(answer >> 32)", "(size_t)(answer >> 16 & 65535)", "(size_t)(answer >> 32 & 255)", "(size_t)(answer >> 40)", "(size_t)(answer >> 24)"),
  *of("numbered", "(size_t)(answer >> 16 & 65535)", "(size_t)(answer >> 16)", "(size_t)(answer >> 32)", "(size_t)(answer >> 16 & 127)", "(size_t)(answer >> 24 & 65535)", "0"),
  *of("used", "(size_t)(answer >> 32)", "(size_t)(answer >> 16 & 65535)", "(size_t)(answer >> 16)", "(size_t)(answer >> 32 & 127)", "(size_t)(answer >> 40)", "0"),
+ *of("rows", "(size_t)(answer >> 16 & 65535)", "(size_t)(answer >> 16)", "(size_t)(answer >> 32)", "(size_t)(answer >> 16 & 255)", "(size_t)(answer >> 24 & 65535)", "0"),
+ *of("book_size", "(size_t)(answer >> 32)", "(size_t)(answer >> 16 & 65535)", "(size_t)(answer >> 16)", "(size_t)(answer >> 32 & 255)", "(size_t)(answer >> 32 & 32767)", "(size_t)(answer >> 40)", "0"),
+ *of("edition", "(unsigned)(answer >> 16 & 65535)", "(unsigned)(answer >> 32)", "(unsigned)(answer >> 16 & 255)", "(unsigned)(answer >> 24 & 65535)", "0"),
+ *of("body_size", "(size_t)(answer >> 16 & 65535)", "(size_t)(answer >> 16)", "(size_t)(answer >> 32)", "(size_t)(answer >> 16 & 4095)", "(size_t)(answer >> 24 & 65535)", "0"),
+ *of("body_start", "(size_t)(answer >> 32)", "(size_t)(answer >> 16 & 65535)", "(size_t)(answer >> 16)", "(size_t)(answer >> 32 & 255)", "(size_t)(answer >> 32 & 16383)", "(size_t)(answer >> 40)", "0"),
  *of("seen", "(unsigned)(answer >> 16 & 255)", "(unsigned)(answer >> 16)", "(unsigned)(answer >> 24 & 255)", "(unsigned)(answer >> 16 & 1)", "0"),
  *of("links", "(unsigned)(answer >> 24)", "(unsigned)(answer >> 16)", "(unsigned)(answer >> 24 & 127)", "(unsigned)(answer >> 32)", "0"),
  *[(0, f"enum {order}", "RUXTAJMA_NO, RUXTAJMA_YES, RUXTAJMA_UNDECLARED", order) for order in (

@@ -115,6 +115,17 @@ ANSWERS = [
  (0, "middle slices over 131,072 refused", "> SLICE_MAX - used)", "> 131072)"),
 ]
 
+def exchanged(text, one, other):
+    """With two numbers of a request in each other's place."""
+    return text.replace(f"[{one}]", "[]").replace(f"[{other}]", f"[{one}]").replace("[]", f"[{other}]")
+
+def in_one_byte(text, number):
+    """With a number of a request cut to its low byte."""
+    return text.replace(f"(uint16_t)q->number[{number}]", f"(uint8_t)q->number[{number}]")
+
+BODY_NUMBERS = "plain_body(LENT(q, 0), (uint16_t)q->number[0],\n                       (uint16_t)q->number[1])"
+SAVE_NUMBERS = "plain_save(LENT(q, 0), (uint16_t)q->number[0],\n                       (uint16_t)q->number[1],"
+RESTORE_NUMBERS = "plain_restore(LENT(q, 0), (uint16_t)q->number[0],\n                          (uint16_t)q->number[1], (uint16_t)q->number[2])"
 SLOT_NUMBERS = "plain_slot_routes(LENT(q, 0), (uint8_t)q->number[0],\n                              (uint8_t)q->number[1], (uint8_t)q->number[2],"
 
 CALLS = [
@@ -134,7 +145,7 @@ CALLS = [
  (0, "local APIC address by 8,192", "give(a, p.fields.local_apic);", "give(a, p.fields.local_apic & ~4096u);"),
  (0, "pointer and size exchanged", "give(a, p.fields.oem_pointer);\n    give(a, p.fields.oem_size);", "give(a, p.fields.oem_size);\n    give(a, p.fields.oem_pointer);"),
  (0, "OEM pointer in 16 bits", "(uint32_t)q->number[0]", "(uint16_t)q->number[0]"),
- (0, "OEM size in 8 bits", "(uint16_t)q->number[1]", "(uint8_t)q->number[1]"),
+ (0, "OEM size in 8 bits", ".oem_size = (uint16_t)q->number[1]", ".oem_size = (uint8_t)q->number[1]"),
  (0, "byte 43 in the local APIC's place", "= (uint32_t)q->number[2]", "= (uint32_t)q->number[3]"),
  (0, "I/O for local routes", "plain_local_routes(LENT", "plain_io_routes(LENT"),
  (0, "kinds I and C exchanged", "['I'] = io_routes,\n    ['C'] = local_routes", "['C'] = io_routes,\n    ['I'] = local_routes"),
@@ -146,6 +157,21 @@ CALLS = [
  (0, "kinds S and N exchanged", "['S'] = slots, ['N'] = renumber", "['N'] = slots, ['S'] = renumber"),
  (0, "numbers into another slice", "plain_renumber(LENT(q, 0), LENT(q, ROOM))", "plain_renumber(LENT(q, 0), LENT(q, 3))"),
  (0, "numbers of another slice", "plain_renumber(LENT(q, 0),", "plain_renumber(LENT(q, 1),"),
+ (0, "kinds B and M exchanged", "['B'] = book, ['M'] = latest", "['M'] = book, ['B'] = latest"),
+ (0, "kinds M and G exchanged", "['M'] = latest, ['G'] = body", "['G'] = latest, ['M'] = body"),
+ (0, "kinds K and O exchanged", "['K'] = save, ['O'] = restore", "['O'] = save, ['K'] = restore"),
+ (0, "book of another slice", "plain_book(LENT(q, 0))", "plain_book(LENT(q, 1))"),
+ (0, "machine in one byte", "plain_latest(LENT(q, 0), (uint16_t)", "plain_latest(LENT(q, 0), (uint8_t)"),
+ (0, "machine of a body in one byte", BODY_NUMBERS, in_one_byte(BODY_NUMBERS, 0)),
+ (0, "machine and edition of a body exchanged", BODY_NUMBERS, exchanged(BODY_NUMBERS, 0, 1)),
+ (0, "history into another slice", "plain_history(LENT(q, 0), LENT(q, ROOM))", "plain_history(LENT(q, 0), LENT(q, 3))"),
+ (0, "machine of a save in one byte", SAVE_NUMBERS, in_one_byte(SAVE_NUMBERS, 0)),
+ (0, "machine and edition of a save exchanged", SAVE_NUMBERS, exchanged(SAVE_NUMBERS, 0, 1)),
+ (0, "body in the room's slice", SAVE_NUMBERS + " LENT(q, 1)", SAVE_NUMBERS + " LENT(q, ROOM)"),
+ (0, "edition of a save in one byte", SAVE_NUMBERS, in_one_byte(SAVE_NUMBERS, 1)),
+ (0, "machine of a restore in one byte", RESTORE_NUMBERS, in_one_byte(RESTORE_NUMBERS, 0)),
+ (0, "edition and latest exchanged", RESTORE_NUMBERS, exchanged(RESTORE_NUMBERS, 1, 2)),
+ (0, "latest for the edition", RESTORE_NUMBERS, RESTORE_NUMBERS.replace("[1]", "[2]")),
  (0, "place in 32 bits", "plain_entry(LENT(q, 0), q->number[0])", "plain_entry(LENT(q, 0), (uint32_t)q->number[0])"),
  (0, "address in 32 bits", "(uint8_t)q->number[1], q->number[2])", "(uint8_t)q->number[1], (uint32_t)q->number[2])"),
  (0, "names not filled up with 0", "    memset(field, 0, size);\n", "    memset(field, ' ', size);\n"),

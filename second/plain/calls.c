@@ -104,11 +104,47 @@ static void address(const struct request *q, struct reply *a)
                           (uint8_t)q->number[1], q->number[2]));
 }
 
+/* ---- the book; machines and editions have two bytes ---- */
+
+static void book(const struct request *q, struct reply *a)
+{
+    give(a, plain_book(LENT(q, 0)));
+}
+
+static void latest(const struct request *q, struct reply *a)
+{
+    give(a, plain_latest(LENT(q, 0), (uint16_t)q->number[0]));
+}
+
+static void body(const struct request *q, struct reply *a)
+{
+    give(a, plain_body(LENT(q, 0), (uint16_t)q->number[0],
+                       (uint16_t)q->number[1]));
+}
+
+static void history(const struct request *q, struct reply *a)
+{
+    give(a, plain_history(LENT(q, 0), LENT(q, ROOM)));
+}
+
+static void save(const struct request *q, struct reply *a)
+{
+    give(a, plain_save(LENT(q, 0), (uint16_t)q->number[0],
+                       (uint16_t)q->number[1], LENT(q, 1)));
+}
+
+static void restore(const struct request *q, struct reply *a)
+{
+    give(a, plain_restore(LENT(q, 0), (uint16_t)q->number[0],
+                          (uint16_t)q->number[1], (uint16_t)q->number[2]));
+}
+
 static plain_call *const calls[256] = {
     ['J'] = judge, ['D'] = read_dump, ['L'] = list, ['W'] = write_table,
     ['T'] = take_apart, ['E'] = edit, ['P'] = entry, ['I'] = io_routes,
     ['C'] = local_routes, ['R'] = slot_routes, ['S'] = slots, ['N'] = renumber,
-    ['A'] = address,
+    ['A'] = address, ['B'] = book, ['M'] = latest, ['G'] = body, ['H'] = history,
+    ['K'] = save, ['O'] = restore,
 };
 
 plain_call *plain_call_of(uint8_t kind)

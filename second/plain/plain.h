@@ -202,6 +202,50 @@ uint64_t plain_renumber(const uint8_t *t, size_t n, uint8_t *room, size_t size);
 uint64_t plain_address(const uint8_t *t, size_t n, uint8_t bus, uint8_t kind,
                        uint64_t address);
 
+/* ---- the book of earlier tables, document 02: 27; 19, 28 and 29 ---- */
+
+/*
+ * A book stands at the start of a room of n bytes; what follows it is not read.
+ * Each call reads all of it and judges every body, and answers 27 where it is bad.
+ * Then nothing was written, nor at any other refusal.
+ */
+
+/* From bit 16 on how many rows it has, and from bit 32 on how many bytes. */
+uint64_t plain_book(const uint8_t *b, size_t n);
+
+/* The latest edition of a machine, from bit 16 on; 0 where it has none. */
+uint64_t plain_latest(const uint8_t *b, size_t n, uint16_t machine);
+
+/*
+ * How many bytes the body of an edition has, from bit 16 on, and where it begins,
+ * from bit 32 on; 28 where the book does not hold it.
+ */
+uint64_t plain_body(const uint8_t *b, size_t n, uint16_t machine, uint16_t edition);
+
+/*
+ * Writes every row from another room's first byte: machine and edition in two bytes
+ * each, where its body begins and how long that is in four each.  Answers how many
+ * rows, from bit 16 on; 19 where the room is too small.  What lies past them stays.
+ */
+uint64_t plain_history(const uint8_t *b, size_t n, uint8_t *room, size_t size);
+
+/*
+ * Adds a body as the next edition of a machine, and answers as plain_book.  began
+ * is the edition that its author began from, 0 of a new machine.  5 to 18 of the
+ * body, 7 also where bytes follow its table; 28 where another is the latest; 29
+ * where there is no room.  What lies past the book stays.  The body may not overlap
+ * the room.
+ */
+uint64_t plain_save(uint8_t *b, size_t n, uint16_t machine, uint16_t began,
+                    const uint8_t *body, size_t length);
+
+/*
+ * The same with the body of an edition that the book holds; 28 also where it does
+ * not hold it.
+ */
+uint64_t plain_restore(uint8_t *b, size_t n, uint16_t machine, uint16_t edition,
+                       uint16_t latest);
+
 /* ---- reading entries: document 01, "a reader that holds the lent table" ---- */
 
 /*

@@ -78,17 +78,18 @@ static void unknowns(struct builder *b, size_t goal, uint8_t length)
     }
 }
 
-/* A table is called full where both parts have 4,096 / part bytes. */
-static void must_be_full(const struct builder *b, size_t goal)
+/* Both parts have just the bytes that were meant. */
+static void must_be_full(const struct builder *b, size_t goal, size_t ext_goal)
 {
-    if (base_left(b, goal) == 0 && ext_left(b, goal) == 0)
+    if (base_left(b, goal) == 0 && ext_left(b, ext_goal) == 0)
         return;
-    fprintf(stderr, "%zu + %zu bytes, not %zu\n", HEADER + b->base_len, b->ext_len,
-            goal);
+    fprintf(stderr, "%zu + %zu bytes, not %zu + %zu\n", HEADER + b->base_len,
+            b->ext_len, goal, ext_goal);
     exit(2);
 }
 
-void make_mixed(struct builder *b, uint32_t part)
+/* Full, but for so many bytes of the extended part. */
+static void mixed(struct builder *b, uint32_t part, size_t less)
 {
     size_t goal = PART_LIMIT / part;
 
@@ -103,8 +104,24 @@ void make_mixed(struct builder *b, uint32_t part)
     mappings(b, 150 / part, 32 / part);
     tree(b, 32 / part);
     modifiers(b, 20 / part, 32 / part);
-    unknowns(b, goal, 16);
-    must_be_full(b, goal);
+    unknowns(b, goal - less, 16);
+    must_be_full(b, goal, goal - less);
+}
+
+void make_mixed(struct builder *b, uint32_t part)
+{
+    mixed(b, part, 0);
+}
+
+void make_large(struct builder *b, uint32_t part)
+{
+    mixed(b, part, 16);
+}
+
+void make_smallest(struct builder *b, uint32_t part)
+{
+    (void)part;
+    processors(b, 1, 0);
 }
 
 void make_processors(struct builder *b, uint32_t part)

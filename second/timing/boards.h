@@ -9,8 +9,8 @@
 /* Fills a started builder; with part 2, half of what is meant. */
 typedef void make_board(struct builder *b, uint32_t part);
 
-/* Both parts full, entries of all types in them. */
-make_board make_mixed;
+/* Both parts full, entries of all types in them; and 16 bytes less. */
+make_board make_mixed, make_large;
 
 /*
  * Little but so many entries of one type.  The buses have all names in turn, or
@@ -49,6 +49,9 @@ make_board make_few_targets, make_many_targets;
  * ISA, as boards of the day have, and the same with processors' IDs for its I/O APICs.
  */
 make_board make_bench, make_pci_bench, make_typical, make_shared;
+
+/* A lone processor: no table has fewer bytes. */
+make_board make_smallest;
 
 /* Where the floating pointer of a dump stands; and the table in it. */
 enum pointer { FIRST, LAST, NOWHERE };

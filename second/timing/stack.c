@@ -66,6 +66,12 @@ static struct call {
     { .name = "slots", .kind = 'S', .ask = linked_call },
     { .name = "renumber", .kind = 'N', .ask = linked_call },
     { .name = "address", .kind = 'A', .ask = linked_call },
+    { .name = "book", .kind = 'B', .ask = linked_call },
+    { .name = "latest", .kind = 'M', .ask = linked_call },
+    { .name = "body", .kind = 'G', .ask = linked_call },
+    { .name = "history", .kind = 'H', .ask = linked_call },
+    { .name = "save", .kind = 'K', .ask = linked_call },
+    { .name = "restore", .kind = 'O', .ask = linked_call },
 }, known = { .name = "(known)", .ask = take_known };
 
 static ucontext_t here, there;

@@ -1,7 +1,7 @@
-/* The tables and dumps that are measured.  All programs must agree on each. */
+/* The tables, dumps and books that are measured.  All programs must agree on each. */
 #include "subjects.h"
 
-#include "boards.h"
+#include "books.h"
 #include "ruxtajma.h"
 
 #include <stdio.h>
@@ -26,8 +26,6 @@ uint64_t call_program(int program, struct subject *s)
 
 /* ---- boards ---- */
 
-#define BIT(work) (1u << (work))
-
 struct board {
     const char *name;
     make_board *make;
@@ -38,7 +36,7 @@ struct board {
 };
 
 enum {
-    EVERY = BIT(WORKS) - 1,
+    EVERY = BIT(BOOK) - 1,   /* all that is not done with books */
     DUMPS = BIT(READ) | BIT(ADDRESSES) | BIT(LIST) | BIT(LIST_FITTING),
     LISTS = BIT(JUDGE) | BIT(LIST) | BIT(LIST_FITTING),
     BOTH_ROUTES = BIT(ROUTES) | BIT(LOCAL_ROUTES),
@@ -210,7 +208,9 @@ static const char *const works[WORKS] = {
     [ROUTES] = "route", [LOCAL_ROUTES] = "local route",
     [SLOT_ROUTES] = "slot route", [SLOTS] = "slots", [RENUMBER] = "renumber",
     [ADDRESS] = "address", [IO_ADDRESS] = "I/O address",
-    [WALK] = "walk the entries",
+    [WALK] = "walk the entries", [BOOK] = "book", [LATEST] = "latest edition",
+    [BODY] = "body", [HISTORY] = "history", [SAVE] = "save",
+    [SAVE_REFUSED] = "save refused with 28", [RESTORE] = "restore",
 };
 
 const char *label(const struct subject *s)
@@ -234,24 +234,40 @@ const char *label(const struct subject *s)
 }
 
 /* What is meant to be refused is refused so, and the rest is not. */
-static bool expected(const struct board *k, enum work work, uint64_t answer)
+static bool expected(enum pointer pointer, enum work work, uint64_t answer)
 {
     if (work == ADDRESSES)
         return answer != 0;
     return (answer & 0xFFFF) == (work == EDIT_REFUSED ? 23 | 17 << 8
-                                 : k->pointer == NOWHERE ? 2 : 0);
+                                 : work == SAVE_REFUSED ? 28
+                                 : pointer == NOWHERE ? 2 : 0);
 }
 
-/* All answer the same. */
-static void check(const struct board *k, struct subject *s)
+/* In a room that has nothing of the call before: what stands there is its own. */
+static uint64_t call_afresh(int program, struct subject *s)
 {
-    s->answer = call_program(PLAIN_O2, s);
-    for (int j = 0; j < PROGRAMS; j++) {
-        uint64_t answer = call_program(j, s);
+    memset(room, 0x5A, sizeof room);
+    return call_program(program, s);
+}
 
-        if (answer != s->answer || !expected(k, s->work, answer)) {
+/* All answer the same, and leave the same in the room. */
+static void check(enum pointer pointer, struct subject *s)
+{
+    static uint8_t left[ROOM_SIZE];
+
+    s->answer = call_afresh(PLAIN_O2, s);
+    memcpy(left, room, sizeof left);
+    for (int j = 0; j < PROGRAMS; j++) {
+        uint64_t answer = call_afresh(j, s);
+
+        if (answer != s->answer || !expected(pointer, s->work, answer)) {
             fprintf(stderr, "%s, %zu bytes: program %d answers %llX\n", label(s),
                     s->size, j, (unsigned long long)answer);
+            exit(2);
+        }
+        if (memcmp(room, left, sizeof left) != 0) {
+            fprintf(stderr, "%s, %zu bytes: program %d leaves another room\n",
+                    label(s), s->size, j);
             exit(2);
         }
     }
@@ -269,7 +285,9 @@ static void lay_out(const struct board *k, struct subject *s, uint32_t part)
         s->size = k->dump / part - TABLE_IN_DUMP;
 }
 
-static void make_subject(const struct board *k, enum work work, uint32_t part)
+/* The next one, with a board in b. */
+static struct subject *new_subject(const char *name, enum work work,
+                                   make_board *make, uint32_t part)
 {
     struct subject *s = &subjects[subject_count++];
 
@@ -278,10 +296,17 @@ static void make_subject(const struct board *k, enum work work, uint32_t part)
         exit(2);
     }
     builder_start(&b, 0xFEE00000u);
-    k->make(&b, part);
-    s->name = k->name;
+    make(&b, part);
+    s->name = name;
     s->work = work;
     s->room = sizeof room;
+    return s;
+}
+
+static void make_subject(const struct board *k, enum work work, uint32_t part)
+{
+    struct subject *s = new_subject(k->name, work, k->make, part);
+
     lay_out(k, s, part);
     switch (work) {
     case EDIT: case EDIT_REFUSED: ask_edit(s); break;
@@ -293,25 +318,52 @@ static void make_subject(const struct board *k, enum work work, uint32_t part)
     case IO_ADDRESS: ask_io_address(s); break;
     default: break;
     }
-    check(k, s);
+    check(k->pointer, s);
     if (work == LIST_FITTING) {
         s->room = ruxtajma_count(s->answer);
-        check(k, s);
+        check(k->pointer, s);
+    }
+}
+
+/* Half of a book has half of the rows, of the same table. */
+static void make_book(const struct volume *v, enum work work, uint32_t part)
+{
+    struct subject *s = new_subject(v->name, work, v->table, 1);
+
+    lay_out_book(v, &b, part, s);
+    check(FIRST, s);
+}
+
+static void make_of_boards(enum work work, bool doubled)
+{
+    for (size_t i = 0; i < sizeof boards / sizeof boards[0]; i++) {
+        const struct board *k = &boards[i];
+
+        if (!((doubled ? k->doubled : k->rows) & BIT(work)))
+            continue;
+        make_subject(k, work, 1);
+        if (doubled)
+            make_subject(k, work, 2);
+    }
+}
+
+static void make_of_volumes(enum work work, bool doubled)
+{
+    for (const struct volume *v = volumes; v->name != NULL; v++) {
+        if (!((doubled ? v->doubled : v->works) & BIT(work)))
+            continue;
+        make_book(v, work, 1);
+        if (doubled)
+            make_book(v, work, 2);
     }
 }
 
 static void make_all(bool doubled)
 {
-    for (enum work work = 0; work < WORKS; work++)
-        for (size_t i = 0; i < sizeof boards / sizeof boards[0]; i++) {
-            const struct board *k = &boards[i];
-
-            if (!((doubled ? k->doubled : k->rows) & BIT(work)))
-                continue;
-            make_subject(k, work, 1);
-            if (doubled)
-                make_subject(k, work, 2);
-        }
+    for (enum work work = 0; work < WORKS; work++) {
+        make_of_boards(work, doubled);
+        make_of_volumes(work, doubled);
+    }
 }
 
 void make_subjects(void)

@@ -1,4 +1,4 @@
-/* What is measured: tables to judge, edit, write and ask, and dumps to list. */
+/* What is measured: tables to judge, edit, write and ask, dumps to list, books. */
 #ifndef SECOND_SUBJECTS_H
 #define SECOND_SUBJECTS_H
 
@@ -8,15 +8,18 @@
 
 enum { OURS, PLAIN_O2, PLAIN_O3, PROGRAMS };
 enum {
-    SUBJECTS_MAX = 140, SUBJECT_ROOM = 65536, ROOM_SIZE = 1 << 17,
+    SUBJECTS_MAX = 170, SUBJECT_ROOM = 65536, ROOM_SIZE = 1 << 17,
     LABEL_WIDTH = 67
 };
 
 enum work {
     JUDGE, PARTS, READ, ADDRESSES, LIST, LIST_FITTING, EDIT, EDIT_REFUSED, WRITE,
     ROUTES, LOCAL_ROUTES, SLOT_ROUTES, SLOTS, RENUMBER, ADDRESS, IO_ADDRESS, WALK,
+    BOOK, LATEST, BODY, HISTORY, SAVE, SAVE_REFUSED, RESTORE,
     WORKS
 };
+
+#define BIT(work) (1u << (work))
 
 struct subject {
     const char *name;
@@ -39,6 +42,12 @@ struct subject {
     uint8_t type, bus, irq, device, pin, kind;
     uint64_t address;
 
+    /* Of a book, which stands at the start of bytes: its own length, */
+    size_t book;
+    uint16_t machine, edition, latest;   /* a row in the middle, and what is saved */
+    size_t table;
+    uint8_t saved[2 * PART_MAX];
+
     double ns[PROGRAMS];       /* of a call, median */
     double ratio[PROGRAMS];    /* of our time to this program's, median */
 };
@@ -56,12 +65,13 @@ void make_doubled(void);
 /* What is done, to what; and how much the answer of a query holds. */
 const char *label(const struct subject *s);
 
-/* Where listings, images, pairs, slots and numbers go. */
+/* Where listings, images, pairs, slots, numbers, histories and saves go. */
 extern uint8_t room[ROOM_SIZE];
 
 /*
  * One call of a program on a subject; a walk is one for each entry.  Each
- * accepted edit takes back the one before it, whoever made that.
+ * accepted edit takes back the one before it, whoever made that; a save or a
+ * restore is made in a copy of the book, and the copying is timed with it.
  */
 uint64_t call_program(int program, struct subject *s);
 

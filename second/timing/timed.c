@@ -7,6 +7,8 @@
 #include "builder.h"
 #include "ruxtajma.h"
 
+#include <string.h>
+
 #ifdef LIBRARY
 #define CALL(name) ruxtajma_##name
 static uint64_t write_table(const struct fields *f, const uint8_t *base,
@@ -50,6 +52,13 @@ static uint64_t walk(const struct subject *s)
     return (uint64_t)at << 16;
 }
 
+/* The book as it was, in a room. */
+static uint8_t *copied(const struct subject *s)
+{
+    memcpy(room, s->bytes, s->book);
+    return room;
+}
+
 uint64_t TIMED(struct subject *s)
 {
     switch (s->work) {
@@ -77,6 +86,18 @@ uint64_t TIMED(struct subject *s)
     case ADDRESS: case IO_ADDRESS:
         return CALL(address)(s->bytes, s->size, s->bus, s->kind, s->address);
     case WALK: return walk(s);
+    case BOOK: return CALL(book)(s->bytes, s->size);
+    case LATEST: return CALL(latest)(s->bytes, s->size, s->machine);
+    case BODY: return CALL(body)(s->bytes, s->size, s->machine, s->edition);
+    case HISTORY: return CALL(history)(s->bytes, s->size, room, s->room);
+    case SAVE:
+        return CALL(save)(copied(s), s->size, s->machine, s->latest,
+                          s->saved, s->table);
+    case SAVE_REFUSED:
+        return CALL(save)(s->bytes, s->size, s->machine,
+                          (uint16_t)(s->latest + 1), s->saved, s->table);
+    case RESTORE:
+        return CALL(restore)(copied(s), s->size, s->machine, s->edition, s->latest);
     default: return edit(s);
     }
 }
