@@ -2,11 +2,11 @@
 #include "mpt.h"
 
 /* The pairs that a query gives, with `between` between two of them, or the word for none. */
-int ask(query *query, const char *apic, struct bytes table, const uint8_t about[3],
+int ask(query *asked, const char *apic, struct bytes table, const uint8_t about[3],
         const char *between, const char *none)
 {
     static uint8_t room[1 << 20];       /* holds the pairs of any query */
-    uint64_t answer = query(table.at, table.length, about[0], about[1], about[2], room, sizeof room);
+    uint64_t answer = asked(table.at, table.length, about[0], about[1], about[2], room, sizeof room);
 
     if (refused(answer))
         return REFUSAL;

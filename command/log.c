@@ -1,15 +1,14 @@
 /*
- * FILE.log: a line for each edit, five words: its time, who made it, the place, and the
- * entry's bytes before and after.  The words are on the disk before the change is; the
- * end of the line is written behind it.  So a line that has its end came about, but for
- * one with a sixth word, "never": of a last line without its end the table itself tells,
- * and so the next edit ends it.
+ * FILE.log: a line for each change of a file, five words: its time, who made it, and three
+ * that tell what it was, in the form of a table's edits or of a book's saves.  The words
+ * are on the disk before the change is; the end of the line is written behind it.  So a
+ * line that has its end came about, but for one with a sixth word, "never": of a last line
+ * without its end the file itself tells, and so the next change ends it.
  */
 #include "mpt.h"
 
 #include <ctype.h>
 #include <errno.h>
-#include <fcntl.h>
 #include <pwd.h>
 #include <stdlib.h>
 #include <string.h>
@@ -17,20 +16,6 @@
 #include <unistd.h>
 
 enum { TIME = 20 };             /* the length of a time */
-
-struct change {
-    const char *time, *who;
-    size_t place;
-    struct bytes before, after;
-    bool never;
-};
-
-struct log {
-    struct change *at;
-    size_t count;
-    size_t bad;                 /* the number of the first line that is none of ours, or 0 */
-    struct bytes rest;          /* what stands behind the last whole line, but zeros at its end */
-};
 
 /* ---- a line ---- */
 
@@ -53,13 +38,13 @@ const char *who(void)
 }
 
 /* The five words, without the line's end. */
-char *log_line(const char *by, size_t place, struct bytes before, struct bytes after)
+char *log_line(const char *by, const char *what)
 {
-    char *line = need(300 + 2 * before.length + 2 * after.length), when[32];
+    char *line = need(300 + strlen(what)), when[32];
     time_t now = time(NULL);
 
     strftime(when, sizeof when, "%Y-%m-%dT%H:%M:%SZ", gmtime(&now));
-    sprintf(line, "%s %s %zu %s %s", when, by, place, hexadecimal(before), hexadecimal(after));
+    sprintf(line, "%s %s %s", when, by, what);
     return line;
 }
 
@@ -74,29 +59,36 @@ static size_t time_in(const char *text)
     return n;
 }
 
-/* Takes a line of ours apart in its place. */
-static bool is_change(struct bytes line, struct change *change)
+/* So a table's line is no line of a book's log, nor the other way round. */
+static bool has_length(const struct form *form, const char *word)
 {
-    char *word[6], *rest = (char *)line.at;
-    uint64_t place;
+    size_t length = strlen(word);
+
+    return length >= form->least && length <= form->most;
+}
+
+/* Takes a line of ours apart in its place. */
+static bool is_line(const struct form *form, struct bytes text, struct line *line)
+{
+    char *word[6], *rest = (char *)text.at;
     int words = 0;
 
-    for (size_t i = 0; i < line.length; i++)
-        if (line.at[i] < ' ' || line.at[i] == 127)
+    for (size_t i = 0; i < text.length; i++)
+        if (text.at[i] < ' ' || text.at[i] == 127)
             return false;
     while (rest != NULL && words < 6)
         word[words++] = strsep(&rest, " ");
     if (words < 5 || rest != NULL || (words == 6 && strcmp(word[5], "never") != 0) ||
         time_in(word[0]) != TIME || word[0][TIME] != '\0' || strchr(word[1], '@') == NULL ||
-        !is_number(word[2], 10, SIZE_MAX, &place))
+        !has_length(form, word[3]) || !has_length(form, word[4]))
         return false;
-    *change = (struct change){ .time = word[0], .who = word[1], .place = (size_t)place,
-                               .never = words == 6 };
-    return is_hexadecimal(word[3], &change->before) && is_hexadecimal(word[4], &change->after) &&
-           change->before.length == change->after.length;
+    *line = (struct line){ .time = word[0], .who = word[1], .never = words == 6 };
+    return form->is_told(word + 2, line);
 }
 
-static struct log parsed(struct bytes file)
+/* ---- a log ---- */
+
+static struct log parsed(const struct form *form, struct bytes file)
 {
     struct log log = { .rest = file };
 
@@ -107,7 +99,7 @@ static struct log parsed(struct bytes file)
     for (size_t i = 0; i < log.count; i++) {
         uint8_t *line = log.rest.at, *end = memchr(line, '\n', log.rest.length);
         *end = '\0';
-        if (!is_change((struct bytes){ line, (size_t)(end - line) }, &log.at[i]) && log.bad == 0)
+        if (!is_line(form, (struct bytes){ line, (size_t)(end - line) }, &log.at[i]) && log.bad == 0)
             log.bad = i + 1;
         log.rest = (struct bytes){ end + 1, log.rest.length - (size_t)(end + 1 - line) };
     }
@@ -116,20 +108,25 @@ static struct log parsed(struct bytes file)
     return log;
 }
 
-static bool same(struct bytes a, struct bytes b)
+/*
+ * The words of a line behind its name, as far as they go: a number, two of the form's, and
+ * "never".  Only the last that is there may have too few signs.
+ */
+static bool are_begun(const struct form *form, const char *text, size_t length)
 {
-    return a.length == b.length && memcmp(a.at, b.at, a.length) == 0;
+    size_t end = 0;
+
+    for (int word = 0; word < 3 && text[end] == ' '; word++) {
+        size_t signs = strspn(text + end + 1, word == 0 ? "0123456789" : form->signs);
+        end += 1 + signs;
+        if (word > 0 && (signs > form->most || (signs < form->least && end < length)))
+            return false;
+    }
+    return length - end <= strlen(" never") && memcmp(text + end, " never", length - end) == 0;
 }
 
-/* Whether the proved editor has put this in. */
-static bool put_in(struct bytes table, size_t place, struct bytes stated, struct bytes wanted)
-{
-    return ruxtajma_edit(table.at, table.length, place, stated.at, stated.length, wanted.at,
-                         wanted.length) == 0;
-}
-
-/* The beginning of a line of ours: a time, a name with @, and numbers. */
-static bool is_cut_short(struct bytes rest)
+/* The beginning of a line of ours: a time, a name with @, and what its form has behind. */
+static bool is_cut_short(const struct form *form, struct bytes rest)
 {
     const char *line = (const char *)rest.at;
     size_t time = time_in(line);
@@ -138,183 +135,57 @@ static bool is_cut_short(struct bytes rest)
         return time == rest.length;
     size_t name = TIME + 1 + strcspn(line + TIME + 1, " ");
     return name == rest.length || (memchr(line, '@', name) != NULL &&
-           name + strspn(line + name, " 0123456789ABCDEFnevr") == rest.length);
+           are_begun(form, line + name, rest.length - name));
 }
 
 /*
- * A whole line without its end counts too: its change came about where its bytes stand
- * there now.  One that was cut short does not: its change comes behind the line.
+ * A whole line without its end counts too: whether its change came about the file tells.
+ * One that was cut short does not: its change comes behind the line.
  */
-static struct log with_last(struct log log, struct bytes table)
+static struct log with_last(struct log log, const struct form *form, struct bytes file)
 {
-    struct change *last = &log.at[log.count];
+    struct line *last = &log.at[log.count];
     struct bytes copy = { memcpy(need(log.rest.length), log.rest.at, log.rest.length + 1),
                           log.rest.length };
 
-    if (is_change(copy, last) && !last->never) {
-        last->never = !put_in(table, last->place, last->after, last->after);
+    if (is_line(form, copy, last) && !last->never) {
+        last->never = !form->came_about(last, file);
         log.count++;
         log.rest.length = 0;
-    } else if (log.bad == 0 && !is_cut_short(log.rest)) {
+    } else if (log.bad == 0 && !is_cut_short(form, log.rest)) {
         log.bad = log.count + 1;
     }
     return log;
 }
 
-/*
- * From the table as it is back to the first: the line that cannot be taken out, or 0.  One
- * that never came about is put in before, so that it is seen to fit there too.
- */
-static size_t back(struct bytes table, const struct log *log)
+/* The log as far as there is one, from under the lock; where it cannot be read, why is said. */
+bool has_log(const struct target *p, struct log *log)
 {
-    for (size_t i = log->count; i > 0; i--) {
-        const struct change *c = &log->at[i - 1];
-        if ((c->never && !put_in(table, c->place, c->before, c->after)) ||
-            !put_in(table, c->place, c->after, c->before))
-            return i;
+    if (p->log < 0 && p->closed != ENOENT) {
+        printf("the log cannot be read: %s\n", strerror(p->closed));
+        return false;
     }
-    return 0;
+    *log = with_last(parsed(p->form, p->told), p->form, p->was);
+    return true;
 }
-
-/* ---- beside an edit ---- */
 
 /*
  * The log made ready for the next line: the last one gets its end, or what was cut short
  * goes.  Nothing else is touched: a file that is no log of ours is not written to.
  */
-bool made_ready(int file, const char *name, struct bytes table)
+bool made_ready(const struct target *p)
 {
-    struct bytes all = taken_from(file, name, FILE_MOST + 1);
-    struct log log = parsed(all), whole = with_last(log, table);
+    struct bytes all = taken_from(p->log, p->log_name, FILE_MOST + 1);
+    struct log log = parsed(p->form, all), whole = with_last(log, p->form, p->was);
 
     if (whole.bad != 0)
-        wrong("%s: line %zu is no line of a log", name, whole.bad);
-    if (back(copied(table), &whole) != 0)
-        fprintf(stderr, "mpt: note: the log does not fit the table: see 'mpt log'\n");
+        wrong("%s: line %zu is no line of a log", p->log_name, whole.bad);
+    if (p->form->misfit(p->was, &whole) != 0)
+        fprintf(stderr, "mpt: note: the log does not fit the %s: see '%s'\n", p->form->file,
+                p->form->see);
     bool ended = whole.count > log.count;
     const char *ending = !ended ? "" : whole.at[log.count].never ? " never\n" : "\n";
     size_t end = (size_t)(log.rest.at - all.at) + (ended ? log.rest.length : 0);
-    return (end == all.length || ftruncate(file, (off_t)end) == 0) &&
-           put_all(file, (struct bytes){ (uint8_t *)ending, strlen(ending) });
-}
-
-/* The last change of a place that came about. */
-static const struct change *last_of(const struct log *log, size_t place)
-{
-    for (const struct change *c = log->at + log->count; c-- > log->at; )
-        if (c->place == place && !c->never)
-            return c;
-    return NULL;
-}
-
-/* By the log, who put there what stands at a place. */
-void tell_who(int file, const char *name, struct bytes table, size_t place,
-              struct bytes standing)
-{
-    struct bytes all = file < 0 ? (struct bytes){ need(0), 0 }
-                                : taken_from(file, name, FILE_MOST + 1);
-    struct log log = with_last(parsed(all), table);
-    const struct change *last = log.bad == 0 ? last_of(&log, place) : NULL;
-
-    if (log.bad != 0 || (last != NULL && !same(last->after, standing)))
-        printf("the log does not fit what stands there: see 'mpt log'\n");
-    else if (last == NULL)
-        printf("the log does not say who put it there\n");
-    else
-        printf("put there by %s, %s\n", last->who, last->time);
-}
-
-/* ---- the history of a table ---- */
-
-/* Where the lines of the listing do not tell the two apart, their bytes do. */
-static void show(const struct change *c, const char *before, const char *after)
-{
-    bool alike = strcmp(before, after) == 0;
-
-    printf("%s  %s  entry %zu: %s -> %s%s\n", c->time, c->who, c->place,
-           alike ? hexadecimal(c->before) : before, alike ? hexadecimal(c->after) : after,
-           c->never ? "  (never came about)" : "");
-}
-
-/* From a first table on: the line that cannot be put in, or 0. */
-static size_t forth(const struct table *t, const struct log *log, bool shown)
-{
-    for (size_t i = 0; i < log->count; i++) {
-        const struct change *c = &log->at[i];
-        char *before = shown ? joined(line_at(t, c->place), "") : NULL;
-        if (!put_in(t->file, c->place, c->before, c->after))
-            return i + 1;
-        if (shown)
-            show(c, before, line_at(t, c->place));
-        if (c->never && !put_in(t->file, c->place, c->after, c->before))
-            return i + 1;
-    }
-    return 0;
-}
-
-/* The lines from a number on, by their bytes, and which of them does not fit. */
-static int misfit(const struct log *log, size_t from, const char *table, size_t line,
-                  const char *why)
-{
-    for (size_t i = from; i < log->count && i + 1 != log->bad; i++)
-        show(&log->at[i], "", "");
-    printf("the log does not fit %s: line %zu %s\n", table, line, why);
-    return REFUSAL;
-}
-
-/* Back to the first table, and from there, or from the one that was given, on again. */
-static int told(struct table t, const struct log *log, const struct call *call)
-{
-    struct bytes now = copied(t.file);
-    size_t never = 0, line;
-    bool shown = call->first == NULL;
-
-    if (log->bad != 0)
-        return misfit(log, 0, call->word[0], log->bad, "is no line of a log");
-    if ((line = back(t.file, log)) != 0)
-        return misfit(log, 0, call->word[0], line, "cannot be taken out of it");
-    if (!shown && !table_of(call->first, &t))
-        return REFUSAL;
-    if ((line = forth(&t, log, shown)) != 0)
-        return misfit(log, shown ? line - 1 : 0, shown ? call->word[0] : call->first, line,
-                      "cannot be put in");
-    if (log->rest.length > 0)
-        printf("a last line is cut short: its change never came about\n");
-    for (size_t i = 0; i < log->count; i++)
-        never += log->at[i].never;
-    bool gives = shown || same(t.file, now);
-    if (shown)
-        printf("the log fits the table");
-    else
-        printf("the log %s: its edits put into %s %s %s", gives ? "fits" : "does not fit",
-               call->first, gives ? "give" : "do not give", call->word[0]);
-    printf(" (edits: %zu, never came about: %zu)\n", log->count, never);
-    return gives ? ANSWER : REFUSAL;
-}
-
-/* Both files are read under the lock, so that no edit is seen half done. */
-int history(const struct call *call)
-{
-    char *path = realpath(call->word[0], NULL), *name;
-    struct bytes all = { need(0), 0 };
-    struct table t;
-
-    if (path == NULL)
-        failed(call->word[0]);
-    name = joined(path, ".log");
-    int file = locked_log(name, O_RDONLY, F_RDLCK);
-    if (file < 0 && errno != ENOENT)
-        failed(name);
-    if (!table_of(path, &t))
-        return REFUSAL;
-    if (file >= 0) {
-        all = taken_from(file, name, FILE_MOST + 1);
-        close(file);            /* whoever reads on at leisure holds nobody off */
-    }
-    if (all.length == 0 && call->first == NULL) {
-        printf("no edit is logged\n");
-        return ANSWER;
-    }
-    struct log log = with_last(parsed(all), t.file);
-    return told(t, &log, call);
+    return (end == all.length || ftruncate(p->log, (off_t)end) == 0) &&
+           put_all(p->log, (struct bytes){ (uint8_t *)ending, strlen(ending) });
 }

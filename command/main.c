@@ -50,6 +50,20 @@ static const struct verb {
     { "log", "[--check FIRST] TABLE",
       "who changed what, when; with FIRST, whether that makes the table of it", "c",
       1, 1, history, "" },
+    { "book new", "BOOK", "a new book of earlier tables, with none in it", "", 1, 1, book_new, "" },
+    { "book save", "BOOK MACHINE --began N TABLE",
+      "a table as the machine's next edition, if N is still the latest", "b", 3, 3, book_save,
+      "MACHINE is a number from 0 to 65,535 of your own. N is the edition that you began from, 0 for a\n"
+      "new machine. Where another one is the latest, it says whose it is and what differs.\n" },
+    { "book restore", "BOOK MACHINE EDITION --latest N",
+      "an old edition once more as the next one, if N is still the latest", "n", 3, 3,
+      book_restore, "" },
+    { "book history", "BOOK [MACHINE]", "each edition, of all machines or of one: who saved it, when",
+      "", 1, 2, book_history, "" },
+    { "book show", "BOOK MACHINE EDITION [-o FILE]", "the table of an edition, as a file", "o",
+      3, 3, book_show, "" },
+    { "book diff", "BOOK MACHINE A B", "what differs between two editions, in the words of parts and entries",
+      "", 4, 4, book_diff, "Lines of edition A begin with -, those of edition B with +.\n" },
 };
 
 static const struct option options[] = {
@@ -57,12 +71,14 @@ static const struct option options[] = {
     { "dump", no_argument, NULL, 'd' },         { "io", no_argument, NULL, 'i' },
     { "local", no_argument, NULL, 'l' },        { "set", required_argument, NULL, 's' },
     { "memory", required_argument, NULL, 'm' }, { "region", required_argument, NULL, 'r' },
-    { "check", required_argument, NULL, 'c' },  { NULL, 0, NULL, 0 },
+    { "check", required_argument, NULL, 'c' },  { "began", required_argument, NULL, 'b' },
+    { "latest", required_argument, NULL, 'n' }, { NULL, 0, NULL, 0 },
 };
 
 static const char notes[] =
-    "\nA file '-' is standard input, but for edit and log. Numbers are decimal, or hexadecimal\n"
-    "with 0x; addresses and bytes are hexadecimal. -o FILE makes a new file, over none.\n"
+    "\nA file '-' is standard input, but not one that is changed or has a log: the TABLE of edit and\n"
+    "log, the BOOK of new, save, restore and history. Numbers are decimal, or hexadecimal with 0x;\n"
+    "addresses and bytes are hexadecimal. -o FILE makes a new file, over none.\n"
     "Ends with 0 for an answer, 1 for a refusal, 2 for wrong words or a system error.\n"
     "docs/USING.md and mpt(1) say more.\n";
 
@@ -76,9 +92,23 @@ static int help_of_all(void)
 {
     printf("usage: mpt VERB WORD.., mpt VERB --help, mpt --help, mpt --version\n\n");
     for (size_t i = 0; i < sizeof verbs / sizeof *verbs; i++)
-        printf("  %-8s %s\n", verbs[i].name, verbs[i].help);
+        printf("  %-12s %s\n", verbs[i].name, verbs[i].help);
     printf("%s", notes);
     return ANSWER;
+}
+
+static int help_of_book(void)
+{
+    printf("usage: mpt book VERB WORD.., mpt book VERB --help\n");
+    for (size_t i = 0; i < sizeof verbs / sizeof *verbs; i++)
+        if (strncmp(verbs[i].name, "book ", 5) == 0)
+            printf("\n  mpt %s %s\n    %s\n", verbs[i].name, verbs[i].words, verbs[i].help);
+    return ANSWER;
+}
+
+static bool is_help(const char *word)
+{
+    return strcmp(word, "--help") == 0 || strcmp(word, "-h") == 0;
 }
 
 static void take_option(struct call *call, int letter)
@@ -91,6 +121,8 @@ static void take_option(struct call *call, int letter)
     case 'o': call->out = optarg; break;
     case 'm': call->memory = optarg; break;
     case 'c': call->first = optarg; break;
+    case 'b': call->began = optarg; break;
+    case 'n': call->latest = optarg; break;
     case 's': call->set.at[call->set.count++] = optarg; break;
     case 'r': call->region.at[call->region.count++] = optarg; break;
     }
@@ -122,17 +154,44 @@ static int run(const struct verb *verb, int count, char **word)
     return verb->run(&call);
 }
 
+/* How many words these have of a verb's name, which has one or two; 0 where it is another's. */
+static int words_of_name(const char *name, int count, char **word)
+{
+    size_t first = strcspn(name, " ");
+
+    if (strlen(word[0]) != first || strncmp(word[0], name, first) != 0)
+        return 0;
+    if (name[first] == '\0')
+        return 1;
+    return count > 1 && strcmp(word[1], name + first + 1) == 0 ? 2 : 0;
+}
+
+/* Of a book, and no verb. */
+static int no_verb(int count, char **word)
+{
+    for (int i = 1; i < count; i++)
+        if (is_help(word[i]))
+            return help_of_book();
+    if (count > 1)
+        wrong("no verb 'book %s': see 'mpt book --help'", word[1]);
+    wrong("usage: mpt book VERB WORD..: see 'mpt book --help'");
+}
+
 static int called(int count, char **word)
 {
     if (count < 1)
         wrong("usage: mpt VERB WORD..: see 'mpt --help'");
-    if (strcmp(word[0], "--help") == 0 || strcmp(word[0], "-h") == 0)
+    if (is_help(word[0]))
         return help_of_all();
     if (strcmp(word[0], "--version") == 0)
         return printf("mpt 1.0, for Intel MultiProcessor Specification 1.4\n"), ANSWER;
-    for (size_t i = 0; i < sizeof verbs / sizeof *verbs; i++)
-        if (strcmp(word[0], verbs[i].name) == 0)
-            return run(&verbs[i], count, word);
+    for (size_t i = 0; i < sizeof verbs / sizeof *verbs; i++) {
+        int named = words_of_name(verbs[i].name, count, word);
+        if (named > 0)
+            return run(&verbs[i], count - named + 1, word + named - 1);
+    }
+    if (strcmp(word[0], "book") == 0)
+        return no_verb(count, word);
     wrong("no verb '%s': see 'mpt --help'", word[0]);
 }
 

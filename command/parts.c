@@ -42,6 +42,18 @@ static void put_field(FILE *to, const struct field *f, const uint8_t *header)
     fprintf(to, "\"\n");
 }
 
+/* The fields in which two headers differ. */
+void tell_fields(const uint8_t *before, const uint8_t *after)
+{
+    for (const struct field *f = fields; f < fields + FIELDS; f++)
+        if (memcmp(before + f->at, after + f->at, f->length) != 0) {
+            printf("- ");
+            put_field(stdout, f, before);
+            printf("+ ");
+            put_field(stdout, f, after);
+        }
+}
+
 int parts(const struct call *call)
 {
     struct table t;

@@ -70,20 +70,33 @@ const char *line_at(const struct table *table, size_t place)
     return line;
 }
 
+/* Every entry with its words: its place, which one of the extended part has not, its bytes and its line. */
+size_t entries_of(const struct table *t, struct entry **all)
+{
+    char *line = first_line(t), *next, place[24];
+    size_t count = 0;
+
+    *all = need(t->end * sizeof **all);
+    for (size_t at = HEADER; at < t->end; at += (*all)[count++].bytes.length, line = next) {
+        struct bytes bytes = entry_from(t, at);
+        char *words = need(60 + 2 * bytes.length + strcspn(line, "\n"));
+        next = next_line(line);
+        sprintf(place, at < t->base_end ? "%zu" : "-", count);
+        sprintf(words, "%5s  %-40s  %s", place, hexadecimal(bytes), line);
+        (*all)[count] = (struct entry){ bytes, words };
+    }
+    return count;
+}
+
 int entries(const struct call *call)
 {
     struct table t;
-    struct bytes entry;
+    struct entry *all;
 
     if (!table_of(call->word[0], &t))
         return REFUSAL;
-    char *line = first_line(&t), *next, place[24];
-    for (size_t at = HEADER, n = 0; at < t.end; at += entry.length, n++, line = next) {
-        entry = entry_from(&t, at);
-        next = next_line(line);
-        sprintf(place, at < t.base_end ? "%zu" : "-", n);
-        printf("%5s  %-40s  %s\n", place, hexadecimal(entry), line);
-    }
+    for (size_t i = 0, count = entries_of(&t, &all); i < count; i++)
+        puts(all[i].words);
     return ANSWER;
 }
 

@@ -8,7 +8,7 @@
 #include <string.h>
 #include <strings.h>
 
-/* Document 01's numbers, for who keeps a board; docs/USING.md has what to look for. */
+/* The papers' numbers, for who keeps a board; docs/USING.md has what to look for. */
 static const char *const says[] = {
     "a number without words",
     "it is no dump: its regions, their kinds, places or lengths; at most 65,536 bytes",
@@ -17,7 +17,7 @@ static const char *const says[] = {
     "the floating pointer's feature byte 1 and its table address do not go together",
     "no 44 bytes of a header where the table should begin",
     "no table begins there: not \"PCMP\" (is it a dump? 'mpt table' takes its table out)",
-    "the base length is under 44, over 4,096, or past the end",
+    "the base length is under 44, over 4,096, or past the end; or, of a save, bytes stand behind the table",
     "the base bytes do not add to 0",
     "the table's revision is not 4",
     "a base entry's type is over 4",
@@ -37,6 +37,9 @@ static const char *const says[] = {
     "a bus that is not listed, or no such kind or type",
     "no such PCI slot: the bus is not PCI, or it has no such device or pin",
     "no number is free for an I/O APIC that has a processor's: all of 0 to 254 are in use",
+    "it is no good book: its layout, its rows, the order of the editions, or a table in it",
+    "another edition is the latest, or the book has no such edition",
+    "no room for one edition more: a book has at most 32,768 bytes, a machine 65,535 editions",
 };
 
 /* Wrong words of the user's. */
@@ -116,6 +119,11 @@ uint64_t number_of(const char *what, const char *word, int base, uint64_t most)
         wrong("%s: '%s' is no %snumber from 0 to %llu", what, word,
               base == 16 ? "hexadecimal " : "", (unsigned long long)most);
     return number;
+}
+
+uint16_t number16(const char *what, const char *word)
+{
+    return (uint16_t)number_of(what, word, 10, UINT16_MAX);
 }
 
 /* A number, by its name or as it is. */

@@ -2,9 +2,10 @@
 
     python3 -B command/tests/at_random.py COMMAND [SEED [COUNT]]
 
-Verbs, options and words are good ones, nearly good ones and bad ones; the files are tables, dumps, texts, logs, images, the
-same with bytes changed, random bytes, and none. What may change: a table that an edit answered 0 for, in just the entry
-that it said, and its log, by one line; and -o makes a file. After an edit the table is still accepted.
+Verbs, options and words are good ones, nearly good ones and bad ones; the files are tables, dumps, texts, logs, images, books,
+the same with bytes changed, random bytes, and none. What may change: a table that an edit answered 0 for, in just the entry
+that it said, and its log, by one line; a book that a save or a restore answered 0 for, by just one row; and -o and `book new`
+make a file. After an edit the table is still accepted, and after a save the book.
 """
 import os
 import random
@@ -13,11 +14,12 @@ import sys
 
 import boards
 import harness
-from boards import BENCH, RICH, base_entries, edited, pointer, put
+import rows
+from boards import BENCH, RICH, base_entries, book, edited, pointer, put, rows_of, save_line
 
 SEED = int(sys.argv[2]) if len(sys.argv) > 2 else 1
 COUNT = int(sys.argv[3]) if len(sys.argv) > 3 else 1000
-VERBS = "list judge table entries routes slots slot renumber sees edit parts make dump log".split()
+VERBS = "list judge table entries routes slots slot renumber sees edit parts make dump log book".split()
 FIELDS = "id version enabled boot signature features name address type polarity trigger bus irq destination input".split()
 VALUES = ["0", "1", "2", "3", "9", "255", "256", "on", "off", "INT", "extint", "PCI", "ISA", "EISA", "FEC00000", "0x10", "-1", "",
           "FFFFFFFF", "XPRESSX"]
@@ -27,11 +29,12 @@ ADDRESSES = ["0", "100", "3BB", "1000", "FEC00000", "0xFFFFFFFFFFFFFFFF"]
 NEW_FILES = ["new", "new2", "new3", "new4", "new5", "shelf/new", "nowhere/new", "shelf", "", "board.table", "rich.table.log", "empty", "link"]
 STRANGE = NO_NUMBERS + [
     "-", "--", "-o", "--set", "--table", "--dump", "--io", "--local", "--memory", "--region", "--check", "--help", "--version", "-h", "--nothing",
+    "--began", "--latest", "book", "new", "save", "restore", "history", "show", "diff",
     "", " ", "é", "\udcff\udcfe", "%s%n%x", "a" * 5000, "F" * 40000, "0" * 20000, ".", "=", ":", "irq=", "rom:F0000:board.body", "\n",
     "FFFFFFFFFFFFFFFFF", "xyz"]
 LETTERS = "0123456789abcdefABCDEFxX=:- _%\t\nzé\x01\x7f"
 USERS = ["tester", "anna", "", "a b", "x" * 300, "é", "\n", "%s", None]
-seen = {"runs": 0, 0: 0, 1: 0, 2: 0, "edits": 0, "new files": 0}
+seen = {"runs": 0, 0: 0, 1: 0, 2: 0, "edits": 0, "saves": 0, "new files": 0}
 
 
 class Any(harness.Case):
@@ -67,6 +70,12 @@ class Any(harness.Case):
         content = "".join(lines).encode()
         return self.chance.choice([content, content, content[:-5], self.bytes_changed(content)])
 
+    def book_log(self, all_rows):
+        """A log of a book, of which lines may be missing, never have come about, or be no good ones."""
+        content = "".join(save_line(machine, edition, never=self.chance.random() < 0.2)
+                          for machine, edition, _ in all_rows if self.chance.random() < 0.8).encode()
+        return self.chance.choice([content, content, content[:-5], self.bytes_changed(content)])
+
     def lay(self):
         """All files anew."""
         for path in sorted(self.folder.rglob("*"), reverse=True):
@@ -79,6 +88,8 @@ class Any(harness.Case):
             "board.body": body, "image": bytes(0xF0000) + body + bytes(0x10000 - len(body)),
             "board.txt": harness.run("parts", "-", input=BENCH).out, "rich.txt": harness.run("parts", "-", input=RICH).out,
             **{f"shelf{number}.dump": shelved.dump for number, shelved in enumerate(some)},
+            "boards.book": rows.BOOK, "empty.book": rows.EMPTY, "longer.book": rows.BOOK + self.chance.randbytes(300),
+            "full.book": book([(1, k + 1, rows.SMALL) for k in range(454)]),
         }
         files = dict(good)
         for number in range(5):
@@ -88,6 +99,7 @@ class Any(harness.Case):
             files[f"mended{number}.table"] = self.one_byte_changed_and_mended(self.chance.choice([BENCH, RICH]))
         for name in ("rich.table", "longer.table"):
             files[name + ".log"] = self.log(good[name])
+        files["longer.book.log"] = self.book_log(rows.ROWS)
         files.update(empty=b"", zeros=bytes(100), random=self.chance.randbytes(self.chance.choice([1, 44, 500, 70000])))
         for name, content in files.items():
             self.put(name, content)
@@ -141,9 +153,23 @@ class Any(harness.Case):
         fields = [f"{self.chance.choice(FIELDS)}={self.chance.choice(VALUES)}" for _ in range(self.chance.choice([1, 1, 2, 9]))]
         return words + [word for field in fields for word in ("--set", field)]
 
+    def book_words(self):
+        """A line of a verb of a book; its editions are most often those that there are."""
+        chance, name = self.chance, self.name(".book")
+        found = rows_of((self.folder / name).read_bytes()) if name.endswith(".book") and name in self.good else rows.ROWS
+        machine, edition, _ = chance.choice([*found, (3, 0, b"")])
+        latest = boards.latest(found, machine) if chance.random() < 0.8 else chance.choice(NUMBERS)
+        out = ["-o", chance.choice(NEW_FILES)] if chance.random() < 0.5 else []
+        save = ["save", name, machine, "--began", latest, self.name(".table")]
+        return ["book", *chance.choice([
+            save, save, save, ["restore", name, machine, edition, "--latest", latest],
+            ["new", chance.choice([*NEW_FILES, "new.book"])], ["history", name], ["history", name, machine],
+            ["show", name, machine, edition, *out],
+            ["diff", name, machine, edition, chance.choice([1, latest])]])]
+
     def words(self):
         """A line of one verb, as it should be."""
-        verb, chance = self.chance.choice(VERBS + ["edit"] * 4), self.chance
+        verb, chance = self.chance.choice(VERBS + ["edit"] * 4 + ["book"] * 6), self.chance
         out = ["-o", chance.choice(NEW_FILES)] if chance.random() < 0.5 else []
         return {
             "list": lambda: ["list", self.name(".dump")],
@@ -163,6 +189,7 @@ class Any(harness.Case):
             "make": lambda: ["make", self.name(".txt"), *out],
             "dump": lambda: ["dump", *chance.choice([["--memory", self.name("image")], self.region_words()]), *out],
             "log": lambda: ["log", *chance.choice([[], ["--check", self.name(".table")]]), self.name(".table")],
+            "book": lambda: list(map(str, self.book_words())),
         }[verb]()
 
     def region_words(self):
@@ -199,7 +226,8 @@ class Any(harness.Case):
 
     def new_file(self, words, answer, name, content):
         """-o made it, and said so."""
-        self.assertEqual((answer.status, words[0] in ("table", "parts", "make", "dump")), (0, True), name)
+        makers = ["table"], ["parts"], ["make"], ["dump"], ["book", "show"], ["book", "new"]
+        self.assertEqual((answer.status, words[:1] in makers or words[:2] in makers), (0, True), name)
         self.assertEqual(answer.out, f"{name}: {len(content)} bytes\n".encode())
         self.assertIn(name, words)
         seen["new files"] += 1
@@ -208,17 +236,53 @@ class Any(harness.Case):
         """An edit that was answered 0: in one table just the entry that it named, and one line more in its log."""
         was, is_ = [re.fullmatch(rb"entry (\d+) (?:was|is ) ([0-9A-F]+)  .+", text) for text in answer.out.splitlines()]
         place, wanted = int(is_[1]), bytes.fromhex(is_[2].decode())
-        tables = {os.path.relpath(os.path.realpath(self.folder / word), os.path.realpath(self.folder)) for word in words[1:] if "\0" not in word}
-        name = next(name for name in tables if name in before and now.get(name + ".log") != before.get(name + ".log"))
+        name = self.named_file(words, before, now)
         self.assertEqual(base_entries(before[name])[place].hex().upper(), was[2].decode())
         self.assertEqual(now[name], edited(before[name], place, wanted))
-        log, new_log = before.get(name + ".log", b""), now[name + ".log"]
-        kept = log[:log.rfind(b"\n") + 1]
-        self.assertTrue(new_log.startswith(kept))
-        self.assertRegex(new_log[len(kept):].split(b"\n")[-2], rb"\A[0-9TZ:-]{20} [^\x00-\x20\x7f]+@\S+ %d %s %s\Z" % (place, was[2], is_[2]))
+        self.one_line_more(before.get(name + ".log", b""), now[name + ".log"], b"%d %s %s" % (place, was[2], is_[2]))
         self.assertEqual({other for other in now.keys() | before.keys() if now.get(other) != before.get(other)} - {name}, {name + ".log"})
         self.assertEqual(harness.run("judge", "--table", name, cwd=self.folder).status, 0)
         seen["edits"] += 1
+
+    def one_line_more(self, log, new_log, words):
+        """The lines stay, and behind them stands one that ends with these words. A last line without its end gets it, or goes."""
+        kept = log[:log.rfind(b"\n") + 1]
+        last = log[len(kept):].rstrip(b"\0")
+        self.assertTrue(new_log.startswith(kept))
+        *ended, line, rest = new_log[len(kept):].split(b"\n")
+        self.assertIn(ended, [[], [last], [last + b" never"]] if last else [[]])
+        self.assertRegex(line, rb"\A[0-9TZ:-]{20} [^\x00-\x20\x7f]+@\S+ %s\Z" % words)
+        self.assertEqual(rest, b"")
+
+    def named_files(self, words, before):
+        """The files that the words name, with the bytes that they had."""
+        folder = os.path.realpath(self.folder)
+        named = {os.path.relpath(os.path.realpath(self.folder / word), folder) for word in words[1:] if "\0" not in word}
+        return {name: before[name] for name in named if name in before}
+
+    def named_file(self, words, before, now):
+        """Which of the files that the words name was changed: its log was."""
+        return next(name for name in self.named_files(words, before) if now.get(name + ".log") != before.get(name + ".log"))
+
+    def saved_book(self, words, answer, before, now, input):
+        """A save or a restore that was answered 0: one book has one row more behind all others, of the machine and the edition
+        that it said and with the table that was named or the old one, and its log one line more."""
+        said = re.match(rb"machine (\d+): edition (\d+) is (?:saved|edition (\d+) again) \(", answer.out)
+        machine, edition, old = (int(number or 0) for number in said.groups())
+        name = self.named_file(words, before, now)
+        was, is_ = rows_of(before[name]), rows_of(now[name])
+        self.assertEqual((is_[:-1], is_[-1][:2]), (was, (machine, edition)))
+        self.assertEqual(edition, boards.latest(was, machine) + 1)
+        self.assertEqual(now[name], book(is_) + before[name][len(book(was)):])
+        if old:
+            self.assertIn((machine, old, is_[-1][2]), was)
+        else:
+            self.assertIn(is_[-1][2], [*self.named_files(words, before).values(), *([input] if "-" in words else [])])
+        self.one_line_more(before.get(name + ".log", b""), now[name + ".log"], b"%d %d %d" % (machine, edition, old))
+        changed = {other for other in now.keys() | before.keys() if now.get(other) != before.get(other)}
+        self.assertEqual(changed, {name, name + ".log"})
+        self.assertEqual(harness.run("book", "show", name, machine, edition, cwd=self.folder), (0, is_[-1][2], b""))
+        seen["saves"] += 1
 
     def one_run(self):
         words = self.words()
@@ -237,6 +301,9 @@ class Any(harness.Case):
             if words[:1] == ["edit"] and answer.status == 0 and answer.out.startswith(b"entry "):
                 self.edited_table(words, answer, before, now)
                 return
+            if words[:1] == ["book"] and answer.status == 0 and re.match(rb"machine \d+: edition \d+ is ", answer.out):
+                self.saved_book(words, answer, before, now, input)
+                return
             self.assertEqual({name: now.get(name) for name in before}, before)
             made = sorted(now.keys() - before.keys())
             self.assertLessEqual(len(made), 1)
@@ -250,10 +317,10 @@ class Any(harness.Case):
                 self.lay()
             self.one_run()
         # Each must have come often, for this to tell anything.
-        for what, share in ((0, 10), (1, 10), (2, 10), ("edits", 40), ("new files", 100)):
+        for what, share in ((0, 10), (1, 10), (2, 10), ("edits", 60), ("saves", 150), ("new files", 100)):
             self.assertGreater(seen[what], COUNT // share, seen)
 
 
 if __name__ == "__main__":
     harness.main(lambda: f"seed {SEED}: {seen['runs']} command lines ({seen[0]} answered, {seen[1]} refused, {seen[2]} wrong), "
-                         f"{seen['edits']} edits, {seen['new files']} new files")
+                         f"{seen['edits']} edits, {seen['saves']} saves, {seen['new files']} new files")

@@ -1,6 +1,6 @@
 """Tables, dumps and texts as plain bytes, by the product's paper (document 01). Nothing here asks the command for anything.
 
-The makers of entries, tables, pointers and dumps are those of crates/answers/requests, which shelf/make.py takes too. The
+The makers of entries, tables, pointers, dumps and books are those of crates/answers/requests, which shelf/make.py takes too. The
 rest is what the tests compare with: a table cut into its entries, the line of an entry, an edit put in by hand, and the
 dumps of shelf/ with the texts beside them.
 """
@@ -105,6 +105,46 @@ def fits(edits, never):
 
 def check_fits(first, name, edits, never):
     return f"the log fits: its edits put into {first} give {name} (edits: {edits}, never came about: {never})\n"
+
+
+# ---- a book
+
+BOOK_MOST = 32768
+
+
+def book(rows):
+    """The book of rows, each a machine, an edition and a body."""
+    return PARTS["book"](*rows)
+
+
+def rows_of(b):
+    """The rows of a good book."""
+    found = []
+    for number in range(struct.unpack_from("<H", b, 1)[0]):
+        machine, edition, at, length = struct.unpack_from("<HHHH", b, 3 + 8 * number)
+        found.append((machine, edition, b[at:at + length]))
+    return found
+
+
+def latest(rows, machine):
+    return max((edition for of, edition, _ in rows if of == machine), default=0)
+
+
+def with_save(rows, machine, body):
+    """One row more, behind all others: the machine's next edition."""
+    return [*rows, (machine, latest(rows, machine) + 1, body)]
+
+
+def save_line(machine, edition, restored=0, who="anna@bench", when="2026-11-16T05:06:34Z", never=False):
+    """A line of a book's log: which edition of which machine, and the old one that it restores, or 0."""
+    return f"{when} {who} {machine} {edition} {restored}{' never' if never else ''}\n"
+
+
+def entry_words(t):
+    """What `entries` prints of a table, a line for each entry."""
+    base, extended = base_entries(t), extended_entries(t)
+    return [f"{place:>5}  {entry.hex().upper():<40}  {line_of(entry)}"
+            for place, entry in [*enumerate(base), *(("-", entry) for entry in extended)]]
 
 
 # ---- boards

@@ -33,7 +33,7 @@ def shown(text):
 
 def alike(lines):
     text = re.sub(r"\d{4}-\d\d-\d\dT[\d:]{8}Z", "TIME", "\n".join(lines))
-    return re.sub(r"@\S+?(?=[ ,])", "@bench", text)
+    return re.sub(r"(?m)@\S+?(?=[ ,]|$)", "@bench", text)
 
 
 class Guide(harness.Case):

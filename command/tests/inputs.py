@@ -18,7 +18,9 @@ def readers(name):
     """Each verb that reads a file, with a file of this name."""
     return [["list", name], ["judge", name], ["judge", "--table", name], ["judge", "--dump", name], ["table", name], ["entries", name],
             ["routes", name, "INT", "0", "1"], ["slots", name], ["slot", name, "0", "4", "A"], ["renumber", name],
-            ["sees", name, "0", "io", "100"], ["parts", name], ["make", name], ["dump", "--memory", name], ["dump", "--region", f"rom:F0000:{name}"]]
+            ["sees", name, "0", "io", "100"], ["parts", name], ["make", name], ["dump", "--memory", name],
+            ["dump", "--region", f"rom:F0000:{name}"], ["book", "show", name, "7", "1"], ["book", "diff", name, "7", "1", "2"],
+            ["book", "save", "boards.book", "7", "--began", "0", name]]
 
 
 def writers(name):
@@ -27,7 +29,7 @@ def writers(name):
 
 class NoFile(harness.Case):
     def test_missing(self):
-        for words in readers("board.file") + writers("board.file") + [["log", "board.file"]]:
+        for words in readers("board.file") + writers("board.file") + [["log", "board.file"], ["book", "history", "board.file"]]:
             with self.subTest(words):
                 self.wrong(words, "board.file: No such file or directory")
         self.put("board.table", BENCH)
@@ -41,7 +43,7 @@ class NoFile(harness.Case):
         for words in readers("shelf"):
             with self.subTest(words):
                 self.wrong(words, "shelf: Is a directory")
-        for words in writers("shelf") + [["log", "shelf"]]:
+        for words in writers("shelf") + [["log", "shelf"], ["book", "history", "shelf"]]:
             with self.subTest(words):
                 self.assertRegex(self.wrong(words).err, rb"\Ampt: (/.*/)?shelf: \S")
         self.assertEqual(list((self.folder / "shelf").iterdir()), [])

@@ -8,6 +8,7 @@
  *                fail   the call is not made, and fails with the error KILL_ERROR
  *                gone   it fails so, and every call behind it: a disk that is gone
  *                short  from it on a read or a write moves seven bytes at most
+ *                stop   the process stands still before it, until it is continued
  * KILL_TRACE=FILE  a line for each call is appended to FILE: its name
  *
  * Only what a program calls itself is seen, not what libc does inside of a call.
@@ -57,6 +58,8 @@ static int fails(const char *name)
         return 0;
     if (calls == number && (is("kill") || is("half")))
         raise(SIGKILL);
+    if (calls == number && is("stop"))
+        raise(SIGSTOP);
     if ((calls == number && is("fail")) || is("gone")) {
         errno = error;
         return 1;

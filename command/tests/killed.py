@@ -1,11 +1,12 @@
-"""Edits that are killed: at a random moment, and at every call by which the command touches a file.
+"""Edits and saves that are killed: at a random moment, and at every call by which the command touches a file.
 
     python3 -B command/tests/killed.py COMMAND
 
 Whenever it is, the table is the one before the edit or the one after it, whole; the log tells which; no lock stays; and what
-is left beside them is gone after the next edit.
+is left beside them is gone after the next edit. So it is with a book and a save or a restore. Only a new book may be left in part.
 """
 import random
+import re
 import signal
 import threading
 import time
@@ -13,14 +14,16 @@ import time
 import boards
 import harness
 import preload
-from boards import RICH, base_entries, edited, line_of, put
+import rows
+from boards import BENCH, RICH, base_entries, book, edited, line_of, put, save_line, with_save
+from rows import BOOK, ROWS
 
 PLACE = 12
 # A board of which many places are edited, each with any bytes.
 FIRST, PLACES = boards.lines_board(4), range(5, 9)
 SEED = 20261116
 KILLS = 200
-seen = {"old": 0, "new": 0, "too late": 0, "calls": 0}
+seen = {"old": 0, "new": 0, "too late": 0, "calls": 0, "old books": 0, "new books": 0}
 
 
 class Aftermath(harness.Case):
@@ -210,6 +213,150 @@ class AtEveryCall(Aftermath, preload.Case):
         self.at_every_call(log=(first + last)[:-20].encode())
 
 
+class Saves(rows.Books, preload.Case):
+    """A save or a restore of a book, killed before each of its calls; and each write stores half and no more."""
+
+    LOG = "".join(save_line(machine, edition) for machine, edition, _ in ROWS)
+    SORTS = {"save": (rows.save(7, 3), with_save(ROWS, 7, RICH)), "restore": (rows.restore(7, 1, 3), with_save(ROWS, 7, BENCH))}
+
+    def lay_all(self, log, left):
+        for path in self.folder.iterdir():
+            path.unlink()
+        self.lay(BOOK, log)
+        self.put("new.table", RICH)
+        if left is not None:
+            self.put("boards.book.mpt-new", left)
+
+    def told(self):
+        """What `history` says of each row; it never fails."""
+        answer = self.mpt("book", "history", "boards.book", seconds=60)
+        self.assertEqual((answer.status, answer.err), (0, b""), answer)
+        return [text.split("  ")[-1] for text in answer.out.decode().splitlines()]
+
+    def whole(self, now, log, number, names):
+        """The old book or the new one, by the rename and by nothing before it; and who saved, as far as the log goes."""
+        done = number > names.index("rename") + 1
+        self.assertEqual(self.path.read_bytes(), book(now) if done else BOOK)
+        self.assertLessEqual(set(self.files()), {"boards.book", "boards.book.log", "boards.book.mpt-new", "new.table"})
+        whose = self.told()
+        self.assertEqual(whose[:5], ["anna@bench" if log else "not in the log"] * 5)
+        self.assertEqual(whose[5:], [] if not done else ["edition 1 restored"] if now[-1][2] == BENCH else [rows.WHO])
+        seen["new books" if done else "old books"] += 1
+        return now if done else ROWS
+
+    def goes_on(self, now):
+        """The next save answers at once, and leaves nothing but the book and its log."""
+        self.saves(now, 7, rows.SMALL)
+        self.assertEqual(set(self.files()), {"boards.book", "boards.book.log", "new.table"})
+        self.assertEqual(self.told()[-1], rows.WHO)
+
+    def at_every_call(self, log=None, left=None):
+        for words, now in self.SORTS.values():
+            self.lay_all(log, left)
+            names = self.library.calls(words, self.folder)
+            self.assertEqual(names.count("rename"), 1)
+            for how in ("kill", "half"):
+                for number, name in enumerate(names, 1):
+                    if how == "half" and "write" not in name:
+                        continue
+                    self.lay_all(log, left)
+                    answer = harness.finish(harness.start(harness.words_to_start(words), cwd=self.folder,
+                                                          environment=self.library.at(number, how)))
+                    with self.subTest(words=words, how=how, number=number, name=name):
+                        self.assertEqual(answer.status, -signal.SIGKILL, answer)
+                        self.goes_on(self.whole(now, log, number, names))
+            seen["calls"] += len(names)
+
+    def test_without_a_log(self):
+        self.at_every_call()
+
+    def test_with_a_log(self):
+        """And a new file that was left before."""
+        self.at_every_call(self.LOG, b"left by another" * 5000)
+
+    def test_with_a_last_line_without_its_end(self):
+        """One that came about, one that never did, and one that is cut short: the save ends it or cuts it off first."""
+        self.at_every_call(self.LOG[:-1])
+        self.at_every_call(self.LOG + save_line(7, 4)[:-1])
+        self.at_every_call(self.LOG + save_line(7, 4)[:30])
+
+    def test_many_at_once_and_some_killed(self):
+        """Six save into one book, every fifth time an old edition, and half of it is killed. No edition is ever lost, and what
+        was said to be done is there: each saves a table that no other has."""
+        self.lay(rows.EMPTY)
+        done, wrong = [], []
+
+        def work(worker):
+            chance = random.Random(SEED + worker)
+            try:
+                for number in range(25):
+                    body = edited(rows.SMALL, 0, boards.cpu(worker, 3, version=number))
+                    self.put(f"{worker}.table", body)
+                    machine = chance.choice([1, 2])
+                    bodies = {edition: old for of, edition, old in boards.rows_of(self.path.read_bytes()) if of == machine}
+                    began = len(bodies)
+                    words = rows.save(machine, began, f"{worker}.table")
+                    if number % 5 == 4 and began:
+                        old = chance.randrange(began) + 1
+                        words, body = rows.restore(machine, old, began), bodies[old]
+                    process = harness.start(harness.words_to_start(words), cwd=self.folder)
+                    if chance.random() < 0.5:
+                        time.sleep(chance.uniform(0, 0.02))
+                        process.kill()
+                    status = harness.finish(process).status
+                    assert status in (0, 1, -signal.SIGKILL), status
+                    if status == 0:
+                        done.append((machine, began + 1, body))
+            except BaseException as error:  # told below: a thread's own error would be lost
+                wrong.append(error)
+
+        workers = [threading.Thread(target=work, args=[number]) for number in range(6)]
+        for worker in workers:
+            worker.start()
+        for worker in workers:
+            worker.join()
+        self.assertEqual(wrong, [])
+        now = boards.rows_of(self.path.read_bytes())
+        self.assertEqual(self.path.read_bytes(), book(now))
+        self.assertLessEqual(set(done), set(now), "a save was said to be done, and its edition is not in the book")
+        told = list(zip(now, self.told()))
+        saved = [body for (_, _, body), who in told if who == rows.WHO]
+        self.assertEqual(len(set(saved)), len(saved), "a table was saved twice")
+        restored = [(machine, body, re.fullmatch(r"edition (\d+) restored", who)) for (machine, _, body), who in told if who != rows.WHO]
+        for machine, body, old in restored:
+            self.assertIn((machine, int(old[1]), body), now)
+        self.assertGreater(len(done), 10)
+        self.assertTrue(restored)
+
+
+class NewBooks(preload.Case):
+    def test_at_every_call(self):
+        """A new book is killed: there is none, or a part of it, which is no book; with that taken away it is made."""
+        words, found = ["book", "new", "boards.book"], set()
+        names = self.library.calls(words, self.folder, ("open", "write", "fsync", "close"))
+        for how in ("kill", "half"):
+            for number, name in enumerate(names, 1):
+                if how == "half" and name != "write":
+                    continue
+                (self.folder / "boards.book").unlink()
+                answer = harness.finish(harness.start(harness.words_to_start(words), cwd=self.folder,
+                                                      environment=self.library.at(number, how)))
+                with self.subTest(how=how, number=number, name=name):
+                    self.assertEqual(answer.status, -signal.SIGKILL, answer)
+                    found.add(left := self.files().get("boards.book"))
+                    self.assertLessEqual(set(self.files()), {"boards.book"})
+                    if left == rows.EMPTY:
+                        continue
+                    if left is not None:
+                        self.refuses(["book", "history", "boards.book"], 27)
+                        self.wrong(words, "boards.book: File exists")
+                        (self.folder / "boards.book").unlink()
+                    self.answers(words, "boards.book: 3 bytes\n")
+        self.assertEqual(found, {None, b"", b"\x01", rows.EMPTY})
+        seen["calls"] += len(names)
+
+
 if __name__ == "__main__":
     harness.main(lambda: f"{KILLS} at random (seed {SEED}, {seen['too late']} too late) and at each of {seen['calls']} calls: "
-                         f"the old table stood {seen['old']} times, the new one {seen['new']}")
+                         f"the old table stood {seen['old']} times, the new one {seen['new']}, "
+                         f"the old book {seen['old books']}, the new one {seen['new books']}")

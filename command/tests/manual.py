@@ -7,9 +7,11 @@ import re
 import harness
 
 # The verbs of the plan.
-VERBS = set("list judge table entries routes slots slot renumber sees edit parts make dump log".split())
+VERBS = set("list judge table entries routes slots slot renumber sees edit parts make dump log book".split())
+# Those of a book, which have two words.
+OF_A_BOOK = "new save restore history show diff".split()
 OPTIONS = {"judge": ["--table", "--dump"], "table": ["-o"], "routes": ["--io", "--local"], "edit": ["--set"], "parts": ["-o"], "make": ["-o"],
-           "dump": ["--memory", "--region", "-o"], "log": ["--check"]}
+           "dump": ["--memory", "--region", "-o"], "log": ["--check"], "book": ["--began", "--latest", "-o"]}
 
 
 def plain(roff):
@@ -62,6 +64,13 @@ class Help(harness.Case):
                 text = (harness.ROOT / name).read_text()
                 self.assertEqual(VERBS - verbs_in(plain(text)), set(), "not in it")
                 self.assertEqual(verbs_in(plain(text)) - VERBS, set(), "no verb of the command")
+
+    def test_the_verbs_of_a_book(self):
+        """Each with a line of its own in the help of all, and shown in the manual page and the guide."""
+        for verb in OF_A_BOOK:
+            self.assertRegex(self.mpt("--help").out.decode(), rf"(?m)^  book {verb} +\S")
+            for name in ("command/mpt.1", "docs/USING.md"):
+                self.assertIn(f"mpt book {verb} ", plain((harness.ROOT / name).read_text()), name)
 
     def test_the_same_options_everywhere(self):
         """An option that the manual page or the guide has is one that the help of some verb has, and the other way round."""

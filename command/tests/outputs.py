@@ -8,6 +8,7 @@ import threading
 
 import boards
 import harness
+import rows
 from boards import BENCH
 
 STATED, WANTED = "0300000000010201", "0300000000010209"
@@ -24,12 +25,13 @@ class NewFiles(harness.Case):
         self.put("board.table", BENCH)
         self.text = self.mpt("parts", "board.table").out
         self.put("board.txt", self.text)
+        self.put("boards.book", rows.BOOK)
         self.put("board.image", bytes(0xF0000) + BODY + bytes(0x10000 - len(BODY)))
 
     def makers(self):
         """The verbs that take -o, and the bytes that they give without it."""
         lines = [["table", "board.dump"], ["parts", "board.table"], ["make", "board.txt"], ["dump", "--memory", "board.image"],
-                 ["dump", "--region", "rom:F0000:board.body"]]
+                 ["dump", "--region", "rom:F0000:board.body"], ["book", "show", "boards.book", "7", "1"]]
         return [(words, self.mpt(*words).out) for words in lines]
 
     def test_the_same_bytes(self):
@@ -67,7 +69,8 @@ class NewFiles(harness.Case):
         for words, _ in self.makers():
             self.wrong([*words, "-o", "new"], "new: Permission denied", **other)
         self.folder.chmod(0o755)
-        self.assertEqual(sorted(self.files()), ["board.body", "board.dump", "board.image", "board.table", "board.txt"])
+        self.assertEqual(sorted(self.files()),
+                         ["board.body", "board.dump", "board.image", "board.table", "board.txt", "boards.book"])
 
     def test_the_mask_decides_the_mode(self):
         old = os.umask(0o027)
@@ -84,13 +87,17 @@ class FullOrClosed(harness.Case):
     LINES = [["list", "board.dump"], ["list", "bad.dump"], ["judge", "board.table"], ["table", "board.dump"], ["entries", "board.table"],
              ["routes", "board.table", "INT", "0", "1"], ["slots", "board.table"], ["slot", "board.table", "0", "4", "A"],
              ["renumber", "board.table"], ["sees", "board.table", "0", "io", "100"], ["parts", "board.table"],
-             ["dump", "--memory", "board.image"], ["log", "board.table"], ["--help"], ["list", "--help"], ["--version"]]
+             ["dump", "--memory", "board.image"], ["log", "board.table"], ["--help"], ["list", "--help"], ["--version"],
+             ["book", "history", "boards.book"], ["book", "show", "boards.book", "7", "1"],
+             ["book", "show", "boards.book", "7", "9"], ["book", "diff", "boards.book", "7", "1", "2"],
+             rows.save(7, 1, "board.table"), ["book", "--help"], ["book", "save", "--help"]]
 
     def setUp(self):
         super().setUp()
         self.put("board.dump", DUMP)
         self.put("bad.dump", b"\x09")
         self.put("board.table", BENCH)
+        self.put("boards.book", rows.BOOK)
         self.put("board.image", bytes(0xF0000) + BODY + bytes(0x10000 - len(BODY)))
 
     def test_full(self):
@@ -125,6 +132,17 @@ class FullOrClosed(harness.Case):
                 self.assertEqual((self.folder / "board.table").read_bytes(), wanted)
                 self.assertRegex((self.folder / "board.table.log").read_bytes(), rb"\A[^\n]* 3 %s %s\n\Z" % (STATED.encode(), WANTED.encode()))
                 self.assertEqual(self.mpt("log", "board.table").status, 0)
+
+    def test_a_save_that_cannot_say_so(self):
+        """So it is with a save and a restore."""
+        for words, body in ((rows.save(7, 3, "board.table"), BENCH), (rows.restore(7, 2, 3), rows.SECOND)):
+            self.anew("boards.book", rows.BOOK)
+            with self.subTest(words), open("/dev/full", "wb") as full:
+                answer = self.mpt(*words, stdout=full)
+                self.assertEqual(answer.status, 2)
+                self.assertRegex(answer.err, rb"\Ampt: .*boards\.book: changed, but standard output failed: \S.*\n\Z")
+                self.assertEqual((self.folder / "boards.book").read_bytes(), boards.book(boards.with_save(rows.ROWS, 7, body)))
+                self.assertEqual((self.folder / "boards.book.log").read_bytes().count(b"\n"), 1)
 
     def test_new_files_with_a_full_output(self):
         """The file is whole, or it is not there."""
@@ -187,7 +205,9 @@ class Terminal(harness.Case):
         """A table and a dump are no text: to a terminal they are not written."""
         self.put("board.txt", self.mpt("parts", "board.table").out)
         self.put("board.body", BODY)
-        for words in (["table", "board.dump"], ["make", "board.txt"], ["dump", "--region", "rom:F0000:board.body"]):
+        self.put("boards.book", rows.BOOK)
+        for words in (["table", "board.dump"], ["make", "board.txt"], ["dump", "--region", "rom:F0000:board.body"],
+                      ["book", "show", "boards.book", "7", "1"]):
             with self.subTest(words):
                 status, shown, answer = self.shown(*words)
                 self.assertEqual((status, shown), (2, b""))

@@ -7,7 +7,7 @@ from pathlib import Path
 
 import harness
 
-WAYS = "kill half fail gone short".split()
+WAYS = "kill half fail gone short stop".split()
 
 
 class Library:
@@ -31,7 +31,7 @@ class Library:
         assert how in WAYS
         return {"LD_PRELOAD": str(self.path), "KILL_AT": str(number), "KILL_HOW": how, "KILL_ERROR": str(error)}
 
-    def calls(self, words, cwd):
+    def calls(self, words, cwd, among=("open", "read", "write", "fsync", "rename", "close")):
         """The names of the calls that the command makes with these words, in their order."""
         trace = self.folder / "trace"
         trace.unlink(missing_ok=True)
@@ -39,7 +39,7 @@ class Library:
         assert answer.status == 0, answer
         names = trace.read_text().split()
         # A library that stands in front of nothing would let every test pass.
-        assert {"open", "read", "write", "fsync", "rename", "close"} <= set(names), names
+        assert set(among) <= set(names), names
         return names
 
 

@@ -5,6 +5,7 @@
 import boards
 import harness
 from boards import BENCH
+from rows import BOOK
 
 STATED, WANTED = "0300000000010201", "0300000000010209"
 # A good line of every form, each ending in a word that it must have.
@@ -29,7 +30,17 @@ GOOD = [
     ["dump", "--region", "rom:F0000:board.body"],
     ["log", "board.table"],
     ["log", "--check", "first.table", "board.table"],
+    ["book", "new", "new.book"],
+    ["book", "save", "boards.book", "7", "--began", "3", "board.table"],
+    ["book", "restore", "boards.book", "7", "1", "--latest", "3"],
+    ["book", "history", "boards.book"],
+    ["book", "show", "boards.book", "7", "1"],
+    ["book", "diff", "boards.book", "7", "1", "2"],
 ]
+# The options of a verb, by its words.
+OPTIONS = {"judge": ["--table", "--dump"], "table": ["-o"], "routes": ["--io", "--local"], "edit": ["--set"], "parts": ["-o"],
+           "make": ["-o"], "dump": ["--memory", "--region", "-o"], "log": ["--check"], "book save": ["--began"],
+           "book restore": ["--latest"], "book show": ["-o"]}
 # Numbers that are none, whatever the range; and those past one byte.
 NO_NUMBERS = ["", " ", "0x", "0xG", "0x0x1", "0x-1", "0x 1", "x1", "1e3", "1.0", "1 ", " 1", "+1", "1h", "0b1", "one", "1,0", "-1",
               "99999999999999999999999"]
@@ -47,6 +58,7 @@ class Words(harness.Case):
         self.put("board.table", BENCH)
         self.put("pci.table", boards.RICH)
         self.put("first.table", BENCH)
+        self.put("boards.book", BOOK)
         self.put("board.txt", self.mpt("parts", "-", input=BENCH).out)
         self.put("board.image", bytes(0xF0000) + body + bytes(0x10000 - len(body)))
         self.before = self.files()
@@ -60,6 +72,7 @@ class Words(harness.Case):
             with self.subTest(words):
                 self.assertEqual(self.mpt(*words).status, 0)
                 self.anew("board.table", BENCH)
+                self.anew("boards.book", BOOK)
 
     def test_no_verb(self):
         self.assertRegex(self.wrong([]).err, rb"\Ampt: usage: mpt VERB .*'mpt --help'\n\Z")
@@ -97,10 +110,10 @@ class Words(harness.Case):
 
     def test_options_of_other_verbs(self):
         for words in GOOD:
-            known = {"judge": ["--table", "--dump"], "table": ["-o"], "routes": ["--io", "--local"], "edit": ["--set"], "parts": ["-o"],
-                     "make": ["-o"], "dump": ["--memory", "--region", "-o"], "log": ["--check"]}.get(words[0], [])
-            for option in (["--table"], ["--dump"], ["--io"], ["--local"], ["-o", "new"], ["--set", "irq=1"], ["--memory", "board.image"],
-                           ["--region", "rom:F0000:board.body"], ["--check", "first.table"]):
+            known = OPTIONS.get(words[0], OPTIONS.get(" ".join(words[:2]), []))
+            for option in (["--table"], ["--dump"], ["--io"], ["--local"], ["-o", "new"], ["--set", "irq=1"], ["--began", "3"],
+                           ["--memory", "board.image"], ["--region", "rom:F0000:board.body"], ["--check", "first.table"],
+                           ["--latest", "3"]):
                 if option[0] not in known:
                     with self.subTest([words, option]):
                         self.wrong([*words, *option])
@@ -109,7 +122,9 @@ class Words(harness.Case):
     def test_options_without_a_value(self):
         for words in (["table", "board.dump", "-o"], ["parts", "board.table", "-o"], ["make", "board.txt", "-o"],
                       ["dump", "--memory", "board.image", "-o"], ["dump", "--memory"], ["dump", "--region"],
-                      ["edit", "board.table", "3", STATED, "--set"], ["log", "board.table", "--check"]):
+                      ["edit", "board.table", "3", STATED, "--set"], ["log", "board.table", "--check"],
+                      ["book", "save", "boards.book", "7", "board.table", "--began"],
+                      ["book", "restore", "boards.book", "7", "1", "--latest"], ["book", "show", "boards.book", "7", "1", "-o"]):
             with self.subTest(words):
                 self.wrong(words)
         self.untouched()
