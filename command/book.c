@@ -199,14 +199,14 @@ int book_restore(const struct call *call)
     return add(call->word[0], &a);
 }
 
-/* A log of this name is of a book that was moved away without it: it would never fit the new one. */
+/* A log that was left by a book which was moved away would never fit the new one. */
 static void want_no_log(const char *name)
 {
     const char *log = joined(name, ".log");
     struct stat there;
 
     if (lstat(name, &there) != 0 && lstat(log, &there) == 0)
-        wrong("%s: the log of another book: put it away with that book", log);
+        wrong("%s: it would be the new book's log, and is there already: put it away", log);
 }
 
 int book_new(const struct call *call)

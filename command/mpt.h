@@ -2,9 +2,9 @@
  * mpt: the command at the bench, over the proved library (include/ruxtajma.h).
  * It carries bytes between people, files and the library's calls, and decides nothing
  * about tables and books: every answer, refusal and changed byte is a call's.  Its own are
- * two: the three bytes of an empty book, and that what stands behind a book in its file is
- * moved behind the new one.  A process serves one call of the command and ends, so nothing
- * is freed.
+ * three: the three bytes of an empty book, that what stands behind a book in its file is
+ * moved behind the new one, and what differs between two tables, by the bytes of their
+ * entries.  A process serves one call of the command and ends, so nothing is freed.
  */
 #ifndef MPT_H
 #define MPT_H

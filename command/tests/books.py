@@ -44,7 +44,7 @@ class New(harness.Case):
         for content in (boards.save_line(7, 1), "", None):
             self.put(log.name, content) if content is not None else log.symlink_to("nothing")
             before = self.files()
-            self.wrong(["book", "new", "boards.book"], "boards.book.log: the log of another book: put it away with that book")
+            self.wrong(["book", "new", "boards.book"], "boards.book.log: it would be the new book's log, and is there already: put it away")
             self.unchanged(before)
             self.assertFalse((self.folder / "boards.book").exists())
             log.unlink()

@@ -203,6 +203,17 @@ class LastLines(Logs):
                 self.assertRegex(answer.out.decode().splitlines()[-1], r"\Athe log fits the table \(edits: [012], never came about: [01]\)")
                 self.next_edit(stands, base_entries(stands)[3], before)
 
+    def test_cut_short_of_a_processor(self):
+        """An entry of twenty bytes is cut off, too, wherever its line was cut; a whole line that never came about stays."""
+        t, cpu = edited(BENCH, 3, INT[5]), base_entries(BENCH)[0]
+        last = log_line(2, 0, cpu, put(cpu, 19, 9))
+        begins = last.index(" 0 ") + 3
+        for cut in (1, 15, 16, 17, 39, 40, 41, 42, 56, 57, 58, 80):
+            self.lay(t, self.FIRST, last[:begins + cut])
+            self.next_edit(t, INT[5], self.FIRST)
+        self.lay(t, self.FIRST, last[:-1])
+        self.next_edit(t, INT[5], self.FIRST + last[:-1] + " never\n")
+
     def test_cut_short_in_its_last_word(self):
         """Whoever was to write `never` was killed himself: the change never came about, and the log still fits."""
         t = edited(BENCH, 3, INT[5])

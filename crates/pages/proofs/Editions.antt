@@ -182,7 +182,7 @@ module _ (l : BookLayout) (m e : ℕ) (s : List ℕ) where
   pub found-some : (foundIn l m e s ≡ 0 → ⊥) → holdsEdition m e (rowsOf l s) ≡ true
   found-some z = held ∙ ap not (ne-eqb (foundIn l m e s) 0 z)
 
--- It is none of the bytes behind the rows,
+-- It stands no further on than where the rows end,
 found-within : (m e w : ℕ) (s : List ℕ) (at n : ℕ) → foundFrom w m e s at n ≤ at + n * bookRow w
 unfolding foundFrom
 found-within m e w s at zero = omega arith
@@ -192,7 +192,7 @@ found-within m e w s at (suc n) =
     (λ t. omega (arith, found-here m e w s at n t, rows))
     (λ f. omega (arith, found-next m e w s at n f, found-within m e w s (at + bookRow w) n, rows))
 
--- so that of layout 1 the fields of the row have places.
+-- so of layout 1 it is small, and a field's place added to it does not overflow.
 pub found-small : (m e : ℕ) (s : List ℕ) {at : ℕ} → at ≡ foundIn layout1 m e s → Bytes s → at < 1048576
 unfolding foundIn
 found-small m e s q b = omega (arith, q, found-within m e 2 s bookHead (bookRows s), le-below 2 s 1 b)

@@ -1,5 +1,5 @@
--- Document 02, ask 3: nothing that a book holds is lost. What a save or a restore that is taken leaves, and any run of them; of
--- every layout that can be read again, and so of layout 1. Assumes nothing.
+-- Document 02, ask 3: nothing that a book holds is lost. What a save or a restore that is taken leaves, any run of them, and two
+-- who began from one edition; of every layout that can be read again, and so of layout 1. Assumes nothing.
 use Prim.Native.Nat.{ℕ, zero, suc, _+_, _≤_, _<_}
 use mathlib.Core.Path.{_≡_, refl, sym, ap, _∙_}
 use mathlib.Core.Bool.{true, false, false≢true, and-false}
@@ -336,8 +336,8 @@ module _ (l : BookLayout) (reads : Readable l) where
 
 -- ---- Two who began from the same edition
 
--- Whichever was first, and whatever others ask in between: a save and a restore of the second are refused with 28 and leave every
--- byte, so no table is lost under another one.
+-- Whichever was first, and whatever others ask in between: a save of a good body and a restore by the second are refused with 28
+-- and leave every byte, so no table is lost under another one.
 module _ (l : BookLayout) (reads : Readable l) (s : List ℕ) (b : Bytes s) (ask : Ask) (given : AskOfBytes ask)
     (none : addRefusal l s ask ≡ 0) (asks : List Ask) (more : AsksOfBytes asks) where
   abbrev earlier : Addition
