@@ -23,8 +23,8 @@ ghost use Rattle.rows.specs.Chains.{chainCount, chainOf, lastIn, Linked}
 // How many chains there are.
 const CHAINS: usize = 4096;
 
-// So many rows at most are compared without chains: measured, sixteen take the same time by both ways.
-const FEW: u16 = 15;
+// So many rows at most are compared without chains: measured, fourteen take the same time by both ways.
+const FEW: u16 = 14;
 
 // A good book has no more rows: with its row a body takes at least 52 bytes.
 const ROWS_MOST: u16 = 630;
