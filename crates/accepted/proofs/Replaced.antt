@@ -6,13 +6,16 @@ use mathlib.Core.List.{List, [], _∷_}
 use native.Mathlib.Omega.{arith}
 use lib.ListN.{length, getD, drop, set, length-set}
 use lib.Seq.{sets, length-sets}
-use Rattle.mps.specs.Words.{byte, part}
-use Rattle.mps.specs.Sums.{sum256}
+use lib.Dec.{eqb}
+use Rattle.mps.specs.Words.{byte, part, keep, each}
+use Rattle.mps.specs.Sums.{total, sum256}
 use Rattle.mps.specs.Numbers.{le}
-use Rattle.mps.specs.Layout.{Entry, type, headerSize, signature, checksumAt, baseEntryLength, baseLength, baseBytes, entryCount, extendedEnd, extendedLength, basePart, extendedPart, baseEntries, extendedEntries}
+use Rattle.mps.specs.Layout.{Entry, type, ofType, processorType, headerSize, signature, checksumAt, baseEntryLength, baseLength, baseBytes, entryCount, extendedEnd, extendedLength, basePart, extendedPart, baseEntries, extendedEntries}
 use Rattle.mps.specs.Table.{entryFault, walkFrom}
+use Rattle.mps.specs.Sections.{span, baseAfter, extendedAfter, sections}
 use Rattle.mps.specs.Writing.{fieldsOf}
 use Rattle.mps.specs.Edits.{Edit, standing, before, offsetOf, editedTable}
+use Rattle.laws.proofs.Tests.{whether}
 use Rattle.laws.proofs.Small.{Bytes, bytes-sets}
 use Rattle.laws.proofs.Stores.{sets-take, sets-drop, sets-byte, sets-part, part-sets}
 use Rattle.numbers.proofs.Laws.{le-before}
@@ -34,6 +37,22 @@ unfolding walkFrom
 walk-set last [] k w l h = refl
 walk-set last (e ∷ es) zero w l h = rw (fault-alike last e w l h, h)
 walk-set last (e ∷ es) (suc k) w l h = rw (walk-set (type e) es k w l h)
+
+-- So do the bytes that entries of a type take, and those of some types.
+module _ (w : Entry) where
+  taken-set : (n : ℕ) (es : List Entry) (k : ℕ) → length w ≡ length (getD es k []) → type w ≡ type (getD es k [])
+      → total (each length (keep (ofType n) (set es k w))) ≡ total (each length (keep (ofType n) es))
+  unfolding total each keep
+  taken-set n [] k l h = refl
+  taken-set n (e ∷ es) zero l h = whether (eqb (type e) n) (λ t. rw (h, t, l)) (λ f. rw (h, f))
+  taken-set n (e ∷ es) (suc k) l h =
+      whether (eqb (type e) n) (λ t. rw (t, keep, taken-set n es k l h)) (λ f. rw (f, keep) (taken-set n es k l h))
+
+  span-set : (es : List Entry) (k : ℕ) → length w ≡ length (getD es k []) → type w ≡ type (getD es k [])
+      → (first n : ℕ) → span first n (set es k w) ≡ span first n es
+  unfolding span
+  span-set es k l h first zero = refl
+  span-set es k l h first (suc n) = rw (span-set es k l h first n, taken-set (first + n) es k l h)
 
 module _ (t : List ℕ) (e : Edit) (s : Sound t) (h : Shaped t e) where
   abbrev at : ℕ
@@ -121,7 +140,7 @@ module _ (t : List ℕ) (e : Edit) (s : Sound t) (h : Shaped t e) where
   unfolding standing
   replaced-walk = rw replaced-entries (walk-set 0 (baseEntries t) (e .place) (e .wanted) (h .wanted) (h .kind))
 
-  replaced-extended-entries : extendedEntries (editedTable t e) ≡ extendedEntries t
+  pub replaced-extended-entries : extendedEntries (editedTable t e) ≡ extendedEntries t
   unfolding extendedEntries
   replaced-extended-entries = rw replaced-extended
 
@@ -142,6 +161,13 @@ module _ (t : List ℕ) (e : Edit) (s : Sound t) (h : Shaped t e) where
     extended-sum = rw (replaced-extended, header-byte 42 (λ n. omega arith) (omega arith)) (s .extended-sum);
     extended-walked = rw replaced-extended-entries (s .extended-walked);
   }
+
+  -- The entries of each type stand where they stood.
+  pub replaced-sections : sections (editedTable t e) ≡ sections t
+  unfolding sections baseAfter extendedAfter standing
+  replaced-sections =
+      let after = span-set (e .wanted) (baseEntries t) (e .place) (h .wanted) (h .kind) processorType in
+      rw (replaced-entries, after 1, after 2, after 3, after 4, replaced-base, replaced-extended-length, replaced-extended-entries)
 
   pub replaced-bytes : Bytes t → Bytes (e .wanted) → Bytes (editedTable t e)
   unfolding editedTable

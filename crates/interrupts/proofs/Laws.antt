@@ -1,5 +1,5 @@
 -- Laws of `wrongInterruptIn`: at a place of a slice, and that it is the rule of mps. Assumes nothing.
-use Prim.Native.Nat.{ℕ, _+_, _/_, _%_, _<_}
+use Prim.Native.Nat.{ℕ, _+_, _/_, _%_}
 use mathlib.Core.Path.{_≡_, _∙_}
 use mathlib.Core.Bool.{Bool, not, _||_, or-false}
 use mathlib.Core.List.{List}
@@ -31,23 +31,31 @@ interrupt-at roll k most s at e f =
     let row = row-byte 8 s at in
     rw (e, f, row 1 (omega arith), row 2 (omega arith), row 4 (omega arith), row 6 (omega arith), row 7 (omega arith))
 
--- ---- The rule of mps, of an entry whose bytes are bytes, where the roll has the listed buses, and the listed targets
--- with 255 beside them
+-- ---- The rule of mps, of an entry whose bus and destination the roll has as the rule does, whatever the highest input is
 
+module _ (es : List Entry) (roll : List ℕ) (targets k : ℕ) (e : Entry)
+    (bus : marked busBit roll (sourceBus e) ≡ among (sourceBus e) (idsOf busType es))
+    (target : marked k roll (destination e) ≡ (eqb (destination e) everyone || among (destination e) (idsOf targets es))) where
+  pub wrong-named : (most : ℕ) → wrongInterruptIn roll k most e ≡ (wrongInterrupt es targets e || ltb most (input e))
+  unfolding wrongInterruptIn wrongInterrupt isListed
+  wrong-named most = rw (bus, target)
+
+  -- I/O interrupts: no input is over 255.
+  pub wrong-named-io : Bytes e → wrongInterruptIn roll k 255 e ≡ wrongInterrupt es targets e
+  wrong-named-io bytes =
+      wrong-named 255 ∙ rw (le-ltb 255 (input e) (omega (arith, bytes 7))) (or-false (wrongInterrupt es targets e))
+
+  -- Local interrupts.
+  pub wrong-named-local : wrongInterruptIn roll k 1 e ≡ (wrongInterrupt es targets e || wrongInput e)
+  unfolding wrongInput
+  wrong-named-local = wrong-named 1
+
+-- So of every entry whose bytes are bytes, where the roll has the listed buses, and the listed targets with 255 beside them.
 module _ (es : List Entry) (roll : List ℕ) (bus : Shows busBit roll (λ (y : ℕ). among y (idsOf busType es)))
     (targets k : ℕ) (target : Shows k roll (λ (y : ℕ). eqb y everyone || among y (idsOf targets es)))
     (e : Entry) (bytes : Bytes e) where
-  -- Whatever the highest input is.
-  pub wrong-interrupt : (most : ℕ) → wrongInterruptIn roll k most e ≡ (wrongInterrupt es targets e || ltb most (input e))
-  unfolding wrongInterruptIn wrongInterrupt isListed
-  wrong-interrupt most = rw (bus (sourceBus e) (bytes 4), target (destination e) (bytes 6))
-
-  -- I/O interrupts: no input is over 255.
   pub wrong-interrupt-io : wrongInterruptIn roll k 255 e ≡ wrongInterrupt es targets e
-  wrong-interrupt-io =
-      wrong-interrupt 255 ∙ rw (le-ltb 255 (input e) (omega (arith, bytes 7))) (or-false (wrongInterrupt es targets e))
+  wrong-interrupt-io = wrong-named-io es roll targets k e (bus (sourceBus e) (bytes 4)) (target (destination e) (bytes 6)) bytes
 
-  -- Local interrupts.
   pub wrong-interrupt-local : wrongInterruptIn roll k 1 e ≡ (wrongInterrupt es targets e || wrongInput e)
-  unfolding wrongInput
-  wrong-interrupt-local = wrong-interrupt 1
+  wrong-interrupt-local = wrong-named-local es roll targets k e (bus (sourceBus e) (bytes 4)) (target (destination e) (bytes 6))

@@ -90,9 +90,21 @@ rows-all n s P z f g (suc k) at h l =
     rw (rows-next n s at z h r)
     (g at (rows n (drop (at + n) s)) r (rows-all n s P z f g k (at + n) (omega arith) (omega arith))))
 
--- How many rows of 8 bytes there are.
+-- How many rows there are, where to divide by n is to count how often n can be taken away.
+pub rows-count-by :
+    (n : ℕ) → 0 < n → ((k : ℕ) → k < n → k / n ≡ 0) → ((k : ℕ) → n ≤ k → k / n ≡ suc ((k - n) / n))
+    → (s : List ℕ) → length (rows n s) ≡ length s / n
+rows-count-by n some none more s =
+    let start : length s - 0 ≡ length s = omega arith in
+    rw start at
+    (rows-all n s (λ at es. length es ≡ (length s - at) / n) some
+    (λ at h l. sym (none (length s - at) l))
+    (λ at es l e. let rest : length s - (at + n) ≡ length s - at - n = omega arith in rw (e, more (length s - at) l, rest))
+    (length s) 0 (omega arith) (omega arith))
+
+-- Of 8 bytes, and of 20.
 pub rows-count : (s : List ℕ) → length (rows 8 s) ≡ length s / 8
-rows-count s =
-    let r = rows-all 8 s (λ at es. length es ≡ (length s - at) / 8) (omega arith) (λ at h l. omega arith)
-    (λ at es l e. omega arith) (length s) 0 (omega arith) (omega arith) in
-    omega (arith, r)
+rows-count = rows-count-by 8 (omega arith) (λ k h. omega (arith, h)) (λ k h. omega (arith, h))
+
+pub rows-count-20 : (s : List ℕ) → length (rows 20 s) ≡ length s / 20
+rows-count-20 = rows-count-by 20 (omega arith) (λ k h. omega (arith, h)) (λ k h. omega (arith, h))

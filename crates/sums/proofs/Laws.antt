@@ -1,12 +1,12 @@
 -- Laws of the checksum, for lists of any length. Assumes nothing.
 use Prim.Native.Nat.{ℕ, zero, suc, _+_, _-_, _%_, _<_, _≤_}
-use mathlib.Core.Path.{_≡_, refl}
+use mathlib.Core.Path.{_≡_, refl, sym, _∙_}
 use mathlib.Core.List.{List, [], _∷_, _++_}
 use native.Mathlib.Omega.{arith}
 use native.Mathlib.Numerals.{add-one}
 use native.Mathlib.Nat.{le-of-suc-le-suc, not-suc-le-zero}
-use lib.ListN.{length, getD, set, drop, replicate, drop-of-length-le}
-use lib.Seq.{drop-cons}
+use lib.ListN.{length, getD, set, take, drop, replicate, length-set, drop-of-length-le}
+use lib.Seq.{sets, length-sets, drop-cons, drop-set-lt}
 use Rattle.mps.specs.Sums.{total, sum256, toStore}
 
 -- ---- total
@@ -33,12 +33,26 @@ total-set [] i v h = absurd (not-suc-le-zero h)
 total-set (x ∷ s) zero v h = omega arith
 total-set (x ∷ s) (suc i) v h = omega (arith, total-set s i v (le-of-suc-le-suc h))
 
+-- A part exchanged: its sum goes, the new one's comes.
+pub total-sets :
+    (s : List ℕ) (at : ℕ) (w : List ℕ) → at + length w ≤ length s
+    → total (sets s at w) + total (take (length w) (drop at s)) ≡ total s + total w
+unfolding total
+total-sets s at [] h = refl
+total-sets s at (x ∷ w) h =
+    let rest = total-sets (set s at x) (suc at) w (rw (length-set s at x) (omega arith)) in
+    let same : drop (suc at) (set s at x) ≡ drop (suc at) s = drop-set-lt (suc at) s at x (omega arith) in
+    rw (drop-cons s at 0 (omega arith)) (omega (arith, rw same at rest, total-set s at x (omega arith)))
+
 pub total-zeros : (n : ℕ) → total (replicate n 0) ≡ 0
 unfolding total
 total-zeros zero = refl
 total-zeros (suc n) = omega (arith, total-zeros n)
 
 -- ---- sum256
+
+mod-plus : (a b : ℕ) → (a % 256 + b % 256) % 256 ≡ (a + b) % 256
+mod-plus a b = omega arith
 
 pub sum-append : (a b : List ℕ) → sum256 (a ++ b) ≡ (sum256 a + sum256 b) % 256
 unfolding sum256
@@ -47,6 +61,14 @@ sum-append a b = omega (arith, total-append a b)
 pub sum-set : (s : List ℕ) (i v : ℕ) → i < length s → (sum256 (set s i v) + getD s i 0) % 256 ≡ (sum256 s + v) % 256
 unfolding sum256
 sum-set s i v h = omega (arith, total-set s i v h)
+
+-- The sum after a part is exchanged, from the sum before and both parts' sums.
+pub sum-sets :
+    (s : List ℕ) (at : ℕ) (w : List ℕ) → at + length w ≤ length s
+    → (sum256 (sets s at w) + sum256 (take (length w) (drop at s))) % 256 ≡ (sum256 s + sum256 w) % 256
+unfolding sum256
+sum-sets s at w h =
+    rw (mod-plus (total (sets s at w)) (total (take (length w) (drop at s))), mod-plus (total s) (total w), total-sets s at w h)
 
 -- ---- toStore
 
@@ -64,3 +86,34 @@ stored-append s x e = omega arith
 pub stored-is : (s : List ℕ) (x : ℕ) → x < 256 → sum256 (x ∷ s) ≡ 0 → toStore (sum256 s) ≡ x
 unfolding sum256 total toStore
 stored-is s x h e = omega arith
+
+-- Numbers modulo 256: w and its byte to store are 0; y is what brings x to 0; b may as well be taken modulo 256.
+mod-stored : (w : ℕ) → (w + (256 - w % 256 % 256) % 256) % 256 ≡ 0
+mod-stored w = omega arith
+
+mod-brings : (x y : ℕ) → (x + y) % 256 ≡ 0 → (256 - x % 256 % 256) % 256 ≡ y % 256
+mod-brings x y e = omega arith
+
+mod-inner : (a b c : ℕ) → (a + b % 256 + c) % 256 ≡ (a + b + c) % 256
+mod-inner a b c = omega arith
+
+mod-none : (a b : ℕ) → a % 256 ≡ 0 → b % 256 ≡ 0 → (a + b) % 256 ≡ 0
+mod-none a b e f = omega arith
+
+-- The byte to store after a part of bytes that sum to 0 is exchanged, from the byte before and both parts' sums.
+pub stored-sets :
+    (s : List ℕ) (i at : ℕ) (w : List ℕ) → i < length s → getD (sets s at w) i 0 ≡ getD s i 0 → at + length w ≤ length s → sum256 s ≡ 0
+    → toStore (sum256 (set (sets s at w) i 0))
+    ≡ (getD s i 0 + sum256 (take (length w) (drop at s)) + toStore (sum256 w)) % 256
+unfolding sum256 toStore
+stored-sets s i at w h k f e =
+    let v = sets s at w in
+    let part = total (take (length w) (drop at s)) in
+    let x = total (set v i 0) in
+    let y = (256 - total w % 256 % 256) % 256 in
+    let one : x + getD s i 0 ≡ total v + 0 = rw k at (total-set v i 0 (rw (length-sets s at w) h)) in
+    let sum : x + getD s i 0 + part + y ≡ total s + (total w + y) = omega (arith, one, total-sets s at w f) in
+    let none = mod-none (total s) (total w + y) e (mod-stored (total w)) in
+    mod-brings x (getD s i 0 + part + y)
+    (let shape : x + (getD s i 0 + part + y) ≡ total s + (total w + y) = omega (arith, sum) in rw shape none)
+    ∙ sym (mod-inner (getD s i 0) part y)
