@@ -30,7 +30,6 @@ use Rattle.roll.proofs.has.Reads as roll-has
 use Rattle.roll.proofs.put.Reads as roll-put
 use Rattle.entries.proofs.size.Reads as entries-size
 use Rattle.entries.proofs.count.Reads as entries-count
-use Rattle.entries.proofs.offset.Reads as entries-offset
 use Rattle.lengths.proofs.base.Reads as lengths-base
 use Rattle.lengths.proofs.extended.Reads as lengths-extended
 use Rattle.lengths.proofs.count.Reads as lengths-count
@@ -212,9 +211,6 @@ entries-size-determined κ a x y s t p q = p ∙ sym q
 
 pub entries-count-determined : Answers entries-count.Post
 entries-count-determined κ a x y s t p q = p ∙ sym q
-
-pub entries-offset-determined : Answers entries-offset.Post
-entries-offset-determined κ a x y s t p q = p ∙ sym q
 
 -- ---- lengths
 

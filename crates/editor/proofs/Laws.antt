@@ -1,7 +1,7 @@
 -- The answer of an edit, from its tests and its exchange. Assumes nothing.
 use Prim.Native.Nat.{ℕ, zero, suc, _<_}
 use mathlib.Core.Path.{_≡_, refl, ap, sym, _∙_}
-use mathlib.Core.Bool.{Bool, true, false, not, true≢false}
+use mathlib.Core.Bool.{false, not}
 use mathlib.Core.List.{List, [], _∷_, append-assoc}
 use native.Mathlib.Omega.{arith}
 use lib.Dec.{leb, eqb}
@@ -9,38 +9,18 @@ use borrow.Author.Tests.{eq-eqb, ne-eqb, eqb-true}
 use Rattle.mps.specs.Words.{among, any, each, first}
 use Rattle.mps.specs.Refusals.{Rule, _when_, refusal, innerNumber}
 use Rattle.mps.specs.Answers.{editedOf}
-use Rattle.mps.specs.Judge.{tableRules, tableRefusal}
-use Rattle.mps.specs.Edits.{Edit, standing, offsetOf, editedTable, noPlace, otherShape, changed, innerRefusal, editRules, editRefusal, edited, editLeft, entryRules}
+use Rattle.mps.specs.Judge.{tableRules, tableRefusal, examined}
+use Rattle.mps.specs.Edits.{Edit, standing, noPlace, otherShape, changed, innerRefusal, editRules, editRefusal, edited, editLeft, entryRules}
+use Rattle.mps.specs.declared.Sections.{Sections}
+use Rattle.mps.specs.declared.Examined.{Examined}
+use Rattle.mps.specs.declared.Examined.the-variants.{Accepted as Examined·Accepted}
 use Rattle.mps.specs.declared.Edited.{Edited}
 use Rattle.mps.specs.declared.Edited.the-variants.{Refused as Edited·Refused}
 use Rattle.laws.proofs.Refusals.{number, first-some, first-none, refusal-append, refusal-pass, refusal-below}
-use Rattle.editor.specs.Tested.{testedOf, testRules, tested, Ready, exchangedTable, exchangedOf, exchanged, exchangeLeft}
-use Rattle.editor.specs.declared.Tested.{Tested}
-use Rattle.editor.specs.declared.Tested.the-variants.{At, Refused}
-use Rattle.accepted.proofs.Sound.{sound}
-use Rattle.accepted.proofs.Stands.{stands}
+use Rattle.laws.proofs.Small.{Bytes}
+use Rattle.judge.proofs.Laws.{accepted-number, accepted-sections, accepted-places}
+use Rattle.editor.specs.Tested.{Accepted, Ready, testRules, exchangedOf, exchanged, exchangeLeft}
 use Rattle.accepted.proofs.Shaped.{Shaped, shape-passes, passes-shape, unchanged-seen, seen-unchanged}
-use Rattle.editor.proofs.Tests.{tests-number}
-
--- ---- The answer of the tests, taken apart
-
-isAt : Tested → Bool
-isAt (At at) = true
-isAt (Refused n) = false
-
-valueOf : Tested → ℕ
-valueOf (At at) = at
-valueOf (Refused n) = n
-
-at-none : (n m at : ℕ) → testedOf n m ≡ At at → (n ≡ 0) × (at ≡ m)
-unfolding isAt valueOf
-at-none zero m at e = (refl, sym (ap valueOf e))
-at-none (suc n) m at e = absurd (true≢false (sym (ap isAt e)))
-
-refused-some : (n m k : ℕ) → testedOf n m ≡ Refused k → (n ≡ k) × (0 < n)
-unfolding isAt valueOf
-refused-some zero m k e = absurd (true≢false (ap isAt e))
-refused-some (suc n) m k e = (ap valueOf e, omega arith)
 
 -- ---- Numbers and answers
 
@@ -62,7 +42,21 @@ unfolding inner refusal
 inner-none zero = refl
 inner-none (suc n) = rw (ne-eqb (suc n) 0 (λ e. omega arith))
 
+-- What the judge's answer tells of an accepted table.
+pub examined-table : (t : List ℕ) → Bytes t → {r : Examined} {p : Sections} → r ≡ examined t → r ≡ Examined·Accepted p → Accepted t p
+examined-table t b e q =
+    record { number = sym (accepted-number t e q); places = accepted-sections t e q; placed = accepted-places t b e q }
+
 -- ---- The edit
+
+-- No row of the table's gives 0.
+table-given : (t : List ℕ) → among 0 (each number (tableRules t)) ≡ false
+unfolding tableRules among each
+table-given t = refl
+
+tests-number : (t : List ℕ) (e : Edit) → refusal (testRules t e) ≡ first (tableRefusal t) (refusal (entryRules t e))
+unfolding testRules tableRefusal
+tests-number t e = refusal-append (tableRules t) (entryRules t e) (table-given t)
 
 -- No row gives 0, and none of the tests gives 23.
 tests-given :
@@ -105,39 +99,33 @@ module _ (t : List ℕ) (e : Edit) where
       let shape = shape-passes t e (p .shaped) in
       edit-number ∙ rw (tests-number t e, p .table, shape .0, shape .1, seen-unchanged t e (p .seen), i)
 
-  pub edit-refused : (n : ℕ) {a : Tested} → a ≡ tested t e → a ≡ Refused n
-      → (Edited·Refused n ≡ edited t e) × (t ≡ editLeft t e)
-  unfolding tested edited editLeft
-  edit-refused n a h =
-      let q = refused-some (refusal (testRules t e)) (offsetOf t (e .place)) n (sym a ∙ h) in
+  edit-refused : (n : ℕ) → refusal (testRules t e) ≡ n → (n ≡ 0 → ⊥) → (Edited·Refused n ≡ edited t e) × (t ≡ editLeft t e)
+  unfolding edited editLeft
+  edit-refused n q z =
       let b = refusal-below 23 (testRules t e) (omega arith) (tests-given t e .1) in
-      let k : editRefusal t e ≡ n = edit-number ∙ first-some _ _ (λ z. omega arith) ∙ q .0 in
-      (rw k (refused-answer n _ (omega arith) (omega arith)), rw (k, ne-eqb n 0 (λ z. omega arith)))
+      let k : editRefusal t e ≡ n = edit-number ∙ first-some _ _ (λ x. z (sym q ∙ x)) ∙ q in
+      (rw k (refused-answer n _ (omega arith) (omega arith)), rw (k, ne-eqb n 0 z))
 
-  module _ (at : ℕ) {a : Tested} (g : a ≡ tested t e) (h : a ≡ At at) where
-    none : (refusal (testRules t e) ≡ 0) × (at ≡ offsetOf t (e .place))
-    unfolding tested
-    none = at-none (refusal (testRules t e)) (offsetOf t (e .place)) at (sym g ∙ h)
+  -- By the table's own number, or by one of 20 to 22.
+  pub table-refused : {n : ℕ} → n ≡ tableRefusal t → (n ≡ 0 → ⊥) → (Edited·Refused n ≡ edited t e) × (t ≡ editLeft t e)
+  table-refused {n} q z = edit-refused n (tests-number t e ∙ rw (← q) (first-some n _ z)) z
 
-    -- What the exchange may use.
-    pub ready : Ready t at (e .stated) (e .wanted)
-    ready =
-        let p = passed-tests t e (none .0) in
-        let s = sound t (p .table) in
-        let h = stands t (e .place) s (p .shaped .place) in
-        record {
-          low = rw (none .1) (h .low);
-          inside = rw (none .1, p .seen) (h .inside);
-          fits = s .inside;
-          alike = p .shaped .wanted ∙ sym (p .shaped .stated);
-          stands = rw (none .1, p .seen) (sym (h .bytes));
-        }
+  module _ {p : Sections} (a : Accepted t p) {n : ℕ} (q : n ≡ refusal (entryRules t e)) where
+    tests : refusal (testRules t e) ≡ n
+    tests = tests-number t e ∙ rw (a .number, ← q)
 
-    pub edit-exchanged :
-        {r : Edited} {u : List ℕ} → (r ≡ exchanged t at (e .wanted)) × (u ≡ exchangeLeft t at (e .wanted))
-        → (r ≡ edited t e) × (u ≡ editLeft t e)
-    unfolding exchanged exchangeLeft exchangedTable edited editLeft editedTable innerRefusal
-    edit-exchanged x =
-        let k : editRefusal t e ≡ inner (innerRefusal t e) = rw (none .0) at edit-number in
-        let i = innerRefusal t e in
-        (rw (none .1) at (x .0) ∙ rw k (inner-answer i), rw (none .1) at (x .1) ∙ rw (k, inner-none i) refl)
+    pub entry-refused : (n ≡ 0 → ⊥) → (Edited·Refused n ≡ edited t e) × (t ≡ editLeft t e)
+    entry-refused z = edit-refused n tests z
+
+    module _ (z : n ≡ 0) where
+      -- What the exchange may use.
+      pub ready : Ready t p e
+      ready = let passed = passed-tests t e (tests ∙ z) in record { table = a; shaped = passed .shaped; seen = passed .seen }
+
+      pub edit-exchanged :
+          {r : Edited} {u : List ℕ} → (r ≡ exchanged t e) × (u ≡ exchangeLeft t e) → (r ≡ edited t e) × (u ≡ editLeft t e)
+      unfolding exchanged exchangeLeft edited editLeft
+      edit-exchanged x =
+          let i = innerRefusal t e in
+          let k : editRefusal t e ≡ inner i = rw (tests ∙ z) at edit-number in
+          (x .0 ∙ rw k (inner-answer i), x .1 ∙ rw (k, inner-none i))

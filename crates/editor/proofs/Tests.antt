@@ -1,6 +1,6 @@
--- The tests of an edit, 5 to 22: the rows, and the entry that the code finds and compares. Assumes nothing.
-use Prim.Native.Nat.{ℕ, zero, suc, _+_, _≤_, _<_}
-use mathlib.Core.Path.{_≡_, refl, ap, sym, _∙_}
+-- The tests of an edit, 20 to 22: the rows, and the entry that the code finds and compares. Assumes nothing.
+use Prim.Native.Nat.{ℕ, _+_, _≤_, _<_}
+use mathlib.Core.Path.{_≡_, ap, sym, _∙_}
 use mathlib.Core.Bool.{Bool, true, false, not, _||_}
 use mathlib.Core.List.{List, [], _∷_}
 use native.Mathlib.Omega.{arith}
@@ -9,75 +9,44 @@ use lib.ListN.{length}
 use lib.Seq.{getD-drop}
 use lib.Dec.{eqb}
 use borrow.Author.Tests.{lt-ltb, le-ltb}
-use Rattle.mps.specs.Words.{byte, cut, among, each, first, same, part}
+use Rattle.mps.specs.Words.{byte, same, part}
 use Rattle.mps.specs.Refusals.{refusal}
-use Rattle.mps.specs.Layout.{headerSize, baseLength, entryCount, baseEntryLength, baseEntries}
-use Rattle.mps.specs.Judge.{tableRules, tableRefusal}
-use Rattle.mps.specs.Edits.{Edit, standing, before, offsetOf, noPlace, otherShape, changed, entryRules}
-use Rattle.laws.proofs.Refusals.{number, refusal-append, refusal-stop, refusal-go, refusal-end}
-use Rattle.editor.specs.Tested.{editOf, testedOf, testRules, tested}
-use Rattle.editor.specs.declared.Tested.the-variants.{At, Refused}
+use Rattle.mps.specs.Layout.{entryCount, baseEntryLength}
+use Rattle.mps.specs.Judge.{tableRefusal}
+use Rattle.mps.specs.Edits.{Edit, standing, offsetOf, noPlace, otherShape, changed, entryRules}
+use Rattle.laws.proofs.Refusals.{refusal-stop, refusal-go, refusal-end}
+use Rattle.editor.specs.Tested.{editOf}
 use Rattle.accepted.proofs.Sound.{sound}
 use Rattle.accepted.proofs.Stands.{Stands, stands}
-
--- No row gives 0.
-table-given : (t : List ℕ) → among 0 (each number (tableRules t)) ≡ false
-unfolding tableRules among each
-table-given t = refl
 
 -- ---- The rows
 
 module _ (t : List ℕ) (e : Edit) where
-  pub tests-number : refusal (testRules t e) ≡ first (tableRefusal t) (refusal (entryRules t e))
-  unfolding testRules tableRefusal
-  tests-number = refusal-append (tableRules t) (entryRules t e) (table-given t)
+  pub number-20 : entryCount t ≤ e .place → 20 ≡ refusal (entryRules t e)
+  unfolding noPlace
+  number-20 h = sym (refusal-stop {b = noPlace t e} 20 _ (rw (le-ltb _ _ h)))
 
-  -- 5 to 18.
-  pub tested-table : (n : ℕ) → n ≡ tableRefusal t → (n ≡ 0 → ⊥) → Refused n ≡ tested t e
-  unfolding tested
-  tested-table zero h z = absurd (z refl)
-  tested-table (suc n) h z = rw (tests-number, ← h)
-
-  module _ (z : tableRefusal t ≡ 0) where
-    passed : {n : ℕ} → refusal (entryRules t e) ≡ n → testedOf n (offsetOf t (e .place)) ≡ tested t e
-    unfolding tested
-    passed h = rw (tests-number, z, h)
-
-    pub tested-20 : entryCount t ≤ e .place → Refused 20 ≡ tested t e
+  module _ (p : e .place < entryCount t) where
+    placed : noPlace t e ≡ false
     unfolding noPlace
-    tested-20 h = passed (refusal-stop {b = noPlace t e} 20 _ (rw (le-ltb _ _ h)))
+    placed = rw (lt-ltb _ _ p)
 
-    module _ (p : e .place < entryCount t) where
-      placed : noPlace t e ≡ false
-      unfolding noPlace
-      placed = rw (lt-ltb _ _ p)
+    number-21 : otherShape t e ≡ true → 21 ≡ refusal (entryRules t e)
+    number-21 h = sym (refusal-go 20 _ placed ∙ refusal-stop 21 _ h)
 
-      tested-21 : otherShape t e ≡ true → Refused 21 ≡ tested t e
-      tested-21 h = passed (refusal-go 20 _ placed ∙ refusal-stop 21 _ h)
+    number-22 : otherShape t e ≡ false → changed t e ≡ true → 22 ≡ refusal (entryRules t e)
+    number-22 h k = sym (refusal-go 20 _ placed ∙ refusal-go 21 _ h ∙ refusal-stop 22 _ k)
 
-      tested-22 : otherShape t e ≡ false → changed t e ≡ true → Refused 22 ≡ tested t e
-      tested-22 h k = passed (refusal-go 20 _ placed ∙ refusal-go 21 _ h ∙ refusal-stop 22 _ k)
-
-      tested-at : otherShape t e ≡ false → changed t e ≡ false → At (offsetOf t (e .place)) ≡ tested t e
-      tested-at h k = passed (refusal-go 20 _ placed ∙ refusal-go 21 _ h ∙ refusal-go 22 _ k ∙ refusal-end)
+    number-none : otherShape t e ≡ false → changed t e ≡ false → 0 ≡ refusal (entryRules t e)
+    number-none h k = sym (refusal-go 20 _ placed ∙ refusal-go 21 _ h ∙ refusal-go 22 _ k ∙ refusal-end)
 
 -- ---- As the code tests them
-
-pub base-inside :
-    (t : List ℕ) {n base : ℕ} → n ≡ tableRefusal t → n ≡ 0 → base ≡ baseLength t
-    → (headerSize ≤ base) × (base ≤ length t)
-base-inside t e z b = let s = sound t (sym e ∙ z) in (rw b (s .low), rw b (s .inside))
 
 -- The place at which the code has found an entry.
 pub record Found (t : List ℕ) (place at : ℕ) : Type 0 where
   pub accepted : tableRefusal t ≡ 0
   pub exists : place < entryCount t
   pub is : at ≡ offsetOf t place
-
-pub found : (t : List ℕ) (place : ℕ) {n count base o : ℕ} → n ≡ tableRefusal t → n ≡ 0 → count ≡ entryCount t → place < count
-    → base ≡ baseLength t → o ≡ before place (cut baseEntryLength 0 (part headerSize base t)) → Found t place (headerSize + o)
-unfolding offsetOf baseEntries
-found t place e z c h b o = record { accepted = sym e ∙ z; exists = rw c at h; is = rw (o, b) }
 
 module _ (t : List ℕ) (place at : ℕ) (f : Found t place at) where
   entry : Stands t place
@@ -106,14 +75,14 @@ module _ (t : List ℕ) (place at : ℕ) (f : Found t place at) where
 
     pub found-21 :
         (not (eqb (length stated) n) || not (eqb (length wanted) n) || not (eqb k (byte t at))) ≡ true
-        → Refused 21 ≡ tested t (editOf place stated wanted)
-    found-21 h = tested-21 t _ (f .accepted) (f .exists) (sym shape ∙ h)
+        → 21 ≡ refusal (entryRules t (editOf place stated wanted))
+    found-21 h = number-21 t _ (f .exists) (sym shape ∙ h)
 
     module _ (h : (not (eqb (length stated) n) || not (eqb (length wanted) n) || not (eqb k (byte t at))) ≡ false) where
       pub found-22 : {r : Bool} → r ≡ same stated (part at (at + n) t) → r ≡ false
-          → Refused 22 ≡ tested t (editOf place stated wanted)
-      found-22 e b = tested-22 t _ (f .accepted) (f .exists) (sym shape ∙ h) (sym seen ∙ ap not (sym e ∙ b))
+          → 22 ≡ refusal (entryRules t (editOf place stated wanted))
+      found-22 e b = number-22 t _ (f .exists) (sym shape ∙ h) (sym seen ∙ ap not (sym e ∙ b))
 
-      pub found-at : {r : Bool} → r ≡ same stated (part at (at + n) t) → r ≡ true
-          → At at ≡ tested t (editOf place stated wanted)
-      found-at e b = ap At (f .is) ∙ tested-at t _ (f .accepted) (f .exists) (sym shape ∙ h) (sym seen ∙ ap not (sym e ∙ b))
+      pub found-seen : {r : Bool} → r ≡ same stated (part at (at + n) t) → r ≡ true
+          → 0 ≡ refusal (entryRules t (editOf place stated wanted))
+      found-seen e b = number-none t _ (f .exists) (sym shape ∙ h) (sym seen ∙ ap not (sym e ∙ b))

@@ -1,1 +1,2 @@
+pub mod Amended
 pub mod Tested

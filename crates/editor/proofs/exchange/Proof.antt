@@ -1,54 +1,63 @@
--- What stands once the checksum is stored is the edited table, and put back it is the table as it was.
+-- What stands once the entry and the checksum are stored is the edited table, and put back it is the table as it was.
+use native.Mathlib.Omega.{arith}
 use borrow.Author.Needs.{needs}
-use Rattle.editor.proofs.Exchanges.{base-inside, header-inside, back-length, exchange-done, exchange-refused}
+use Rattle.editor.specs.Tested.{editOf}
+use Rattle.editor.proofs.Exchanges.{inside, left-long, amended, back-length, exchange-done, exchange-refused}
 use Rattle.editor.proofs.exchange.Statement.{statement}
 use Rattle.editor.proofs.exchange.Tie as tie
 
-checksum-requires : tie.Need-checksum-requires
-checksum-requires c κs =
-    let p = c .before .before .before in
-    let a = p .before .before .before .before .before .before in
-    base-inside (a .args .t .now) (a .args .at) (a .args .stated .now) (a .args .wanted .now) (a .pre) (p .put .ensures)
+offset-requires : tie.Need-offset-requires
+offset-requires c κs = let r = c .before .before .before .before .pre in (r .table, r .shaped .place)
+
+slice-read-old : tie.Need-slice-read-old
+slice-read-old c = let i = inside _ _ _ (c .before .before .before .before .before .before .pre) in omega (arith, i .3)
+
+put-requires : tie.Need-put-requires
+put-requires c κs = inside _ _ _ (c .before .before .before .before .before .before .before .before .pre) .3
+
+number-requires : tie.Need-number-requires
+number-requires c κs =
+    let s = c .before .before .before .before .before .before .before .before .before .before .before .before .before in
+    let bytes = c .before .before .before .before .before .before .before .before .before .before .before .before .slice-known .given in
+    let wanted = c .before .before .before .before .before .before .before .before .before .before .shared-slice-known2 .given in
+    amended (s .args .t .now) (s .args .p) (editOf (s .args .place) (s .args .stated .now) (s .args .wanted .now)) (s .pre)
+    (c .before .before .before .before .before .before .before .before .offset .ensures) (c .before .before .before .before .before .before .checksum .ensures) (c .before .before .before .before .put .ensures) (λ i. omega (arith, bytes i)) (λ i. omega (arith, wanted i)) (c .byte .ensures)
 
 returns : tie.Need-returns
 returns c =
-    let s = c .before .before .before in
-    let p = s .before .before .before .before in
-    let a = p .before .before .before .before .before .before in
-    exchange-done (a .args .t .now) (a .args .at) (a .args .stated .now) (a .args .wanted .now) (a .pre)
-    (p .put .ensures) (s .checksum .ensures) (c .before .refusal .ensures) (c .if1 .taken)
+    let s = c .before .before .before .before .before .before .before .before .before .before .before .before .before .before .before in
+    exchange-done (s .args .t .now) (s .args .p) (editOf (s .args .place) (s .args .stated .now) (s .args .wanted .now)) (s .pre)
+    (c .before .before .before .before .before .before .before .before .before .before .offset .ensures) (c .before .before .before .before .before .before .before .before .checksum .ensures) (c .before .before .before .before .before .before .put .ensures) (c .before .number .ensures) (c .if1 .taken)
 
 put-requires-2 : tie.Need-put-requires-2
 put-requires-2 c κs =
-    let s = c .before .before .before .before in
-    let p = s .before .before .before .before in
-    let a = p .before .before .before .before .before .before in
-    header-inside (a .args .t .now) (a .args .at) (a .args .stated .now) (a .args .wanted .now) (a .pre) (p .put .ensures) (s .checksum .ensures)
+    let s = c .before .before .before .before .before .before .before .before .before .before .before .before .before .before .before .before in
+    left-long (s .args .t .now) (s .args .p) (editOf (s .args .place) (s .args .stated .now) (s .args .wanted .now)) (s .pre)
+    (c .before .before .before .before .before .before .before .before .before .before .before .offset .ensures) (c .before .before .before .before .before .before .before .before .before .checksum .ensures) (c .before .before .before .before .before .before .before .put .ensures)
 
 same-length-2 : tie.Need-same-length-2
 same-length-2 c =
-    let s = c .before .before .before .before .before .before .before in
-    let p = s .before .before .before .before in
-    let a = p .before .before .before .before .before .before in
-    back-length (a .args .t .now) (a .args .at) (a .args .stated .now) (a .args .wanted .now) (a .pre)
-    (p .put .ensures) (s .checksum .ensures) (c .before .before .put2 .ensures)
+    let s = c .before .before .before .before .before .before .before .before .before .before .before .before .before .before .before .before .before .before .before in
+    back-length (s .args .t .now) (s .args .p) (editOf (s .args .place) (s .args .stated .now) (s .args .wanted .now)) (s .pre)
+    (c .before .before .before .before .before .before .before .before .before .before .before .before .before .before .offset .ensures) (c .before .before .before .before .before .before .before .before .before .before .before .before .checksum .ensures) (c .before .before .before .before .before .before .before .before .before .before .put .ensures) (c .before .before .put2 .ensures)
 
 returns-2 : tie.Need-returns-2
 returns-2 c =
-    let i = c .before .before .before .before in
-    let s = i .before .before .before in
-    let p = s .before .before .before .before in
-    let a = p .before .before .before .before .before .before in
-    exchange-refused (a .args .t .now) (a .args .at) (a .args .stated .now) (a .args .wanted .now) (a .pre)
-    (p .put .ensures) (s .checksum .ensures) (i .before .refusal .ensures) (i .if1 .left) (c .before .before .put2 .ensures)
+    let s = c .before .before .before .before .before .before .before .before .before .before .before .before .before .before .before .before .before .before .before in
+    exchange-refused (s .args .t .now) (s .args .p) (editOf (s .args .place) (s .args .stated .now) (s .args .wanted .now)) (s .pre)
+    (c .before .before .before .before .before .before .before .before .before .before .before .before .before .before .offset .ensures) (c .before .before .before .before .before .before .before .before .before .before .before .before .checksum .ensures) (c .before .before .before .before .before .before .before .before .before .before .put .ensures) (c .before .before .before .before .before .number .ensures) (c .before .before .before .before .if1 .left) (c .before .before .put2 .ensures)
 
 pub exchange-spec : {M : Type 1} → statement M
 exchange-spec =
     tie.close
     (tie.spec
-    (λ c. search needs) (λ c κs. search needs)
-    checksum-requires
-    (λ c. search needs) (λ c κs. search needs) (λ c. search needs)
+    offset-requires
+    slice-read-old
+    (λ c κs. search needs)
+    put-requires
+    (λ c κs. search needs)
+    number-requires
+    (λ c. search needs)
     returns
     put-requires-2
     same-length-2
