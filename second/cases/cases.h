@@ -165,12 +165,40 @@ size_t standing(const struct edited *t, size_t place, uint8_t *entry);
 /* An edit that states what stands at a place and wants the same. */
 void state_entry(const struct edited *t, size_t place, struct edit_case *e);
 
-/* The next edit of the run, of any kind; where it was accepted, keep_edit(). */
-void gen_edit(struct rng *r, struct edited *t, struct edit_case *e);
+/*
+ * The next edit of the run, of any kind, on a named_case() mostly about IDs; where
+ * it was accepted, keep_edit().
+ */
+void gen_edit(struct rng *r, struct edited *t, bool named, struct edit_case *e);
 void keep_edit(struct edited *t, const struct edit_case *e);
 
 /* An edit of a table that need not be sound: its own number is the answer. */
 void blind_edit(struct rng *r, const struct test_case *c, struct edit_case *e);
+
+/* What rules 14 to 18 say of an edited table: the first that it breaks, or 0. */
+int broken_rule(struct builder *b);
+
+/* The answer to an edit that states what stands there, of the same type. */
+void expect_edit(struct edited *t, struct edit_case *e);
+
+/*
+ * Who names an ID, as bits.  BY_ALL: it is 255, which as a destination names no
+ * single one.  Of processors and I/O APICs the destinations of both sides count.
+ */
+enum {
+    BY_IO = 1, BY_LOCAL = 2, BY_MAPPING = 4, BY_LINK = 8, AS_PARENT = 16,
+    BY_MODIFIER = 32, BY_ALL = 64, NAMERS = 128
+};
+
+struct names {
+    uint8_t by[3][256];          /* of types 0 to 2 */
+    uint16_t have[3][256][2];    /* how many entries have it that are off, and on */
+};
+
+void find_names(struct builder *b, struct names *n);
+
+/* A sound table of which each ID is named by one kind of entry, two or none. */
+void named_case(struct rng *r, struct test_case *c);
 
 /* A table with one faulty entry, and the edit that would mend it. */
 void mending_edit(struct rng *r, struct test_case *c, struct edit_case *e);

@@ -1,6 +1,7 @@
 /*
  * Edits of one table, accepted and refused: sound changes, changes back, stale
- * statements, other lengths, types and places, and changes that break a rule.
+ * statements, other lengths, types and places, changes that break a rule, and IDs
+ * that others name.
  */
 #include "faults.h"
 
@@ -51,6 +52,17 @@ void state_entry(const struct edited *t, size_t place, struct edit_case *e)
     memcpy(e->wanted, e->stated, e->stated_length);
 }
 
+/* The same of an entry, given where it stands. */
+static void state_this(const struct edited *t, const uint8_t *entry,
+                       struct edit_case *e)
+{
+    size_t place = 0;
+
+    for (size_t at = 0; t->b.base + at < entry; at += size_of_type(t->b.base[at]))
+        place++;
+    state_entry(t, place, e);
+}
+
 /* The same of any entry. */
 static void state_any(struct rng *r, const struct edited *t, struct edit_case *e)
 {
@@ -60,6 +72,16 @@ static void state_any(struct rng *r, const struct edited *t, struct edit_case *e
     if (rng_chance(r, 15))
         place = rng_chance(r, 50) ? 0 : count - 1;
     state_entry(t, place, e);
+}
+
+void expect_edit(struct edited *t, struct edit_case *e)
+{
+    uint8_t *entry = t->b.base + offset_of(&t->b, e->place);
+
+    memcpy(entry, e->wanted, e->wanted_length);
+    int rule = broken_rule(&t->b);
+    memcpy(entry, e->stated, e->stated_length);
+    e->expected = rule == 0 ? 0 : 23 + 256 * rule;
 }
 
 /* ---- accepted ---- */
@@ -148,6 +170,7 @@ static bool any_edit(struct rng *r, struct edited *t, struct edit_case *e)
         e->wanted[at] = rng_chance(r, 50) ? e->wanted[at] ^ 1u << rng_below(r, 8)
                                           : rng_byte(r);
     }
+    expect_edit(t, e);
     return true;
 }
 
@@ -160,6 +183,149 @@ static bool telling_edit(struct rng *r, struct edited *t, struct edit_case *e)
     case 1: unlisted(r, &t->b, e->wanted[0], true, &e->wanted[1]); break;
     default: e->wanted[3] ^= (uint8_t)rng_range(r, 1, 3);
     }
+    expect_edit(t, e);
+    return true;
+}
+
+/* ---- the checksum ---- */
+
+/*
+ * It becomes 0 or 255, by a byte that no rule speaks of; or it stays, though two
+ * bytes change places: two such or, of an I/O APIC, the upper ones of its address.
+ * A bus has neither.
+ */
+static bool sum_edit(struct rng *r, struct edited *t, struct edit_case *e)
+{
+    static const uint8_t places[5][3] = {
+        [0] = { 2, 4, 19 }, [2] = { 2, 6, 7 }, [3] = { 5, 3, 5 }, [4] = { 5, 3, 5 },
+    };
+    static uint8_t image[2 * PART_LIMIT];
+
+    state_any(r, t, e);
+    const uint8_t *at = places[e->stated[0]];
+    uint8_t *w = e->wanted, first = w[at[1]];
+
+    if (w[0] == 1)
+        return false;
+    seal(&t->b, image);
+    switch (rng_below(r, 3)) {
+    case 0: w[at[0]] = (uint8_t)(w[at[0]] + image[7]); break;
+    case 1: w[at[0]] = (uint8_t)(w[at[0]] + image[7] + 1); break;
+    default: w[at[1]] = w[at[2]], w[at[2]] = first;
+    }
+    return memcmp(w, e->stated, e->wanted_length) != 0;
+}
+
+/* ---- IDs, by who names them and who else has them ---- */
+
+static bool is_on(const uint8_t *e) { return e[0] == 1 || e[3] & 1; }
+
+/*
+ * How an entry stands to the others: who names its ID, whether another has it that
+ * is on or off, and whether it is on itself.
+ */
+enum { HAD_ON = NAMERS, HAD_OFF = 2 * NAMERS, ON = 4 * NAMERS, WAYS = 8 * NAMERS };
+
+static uint32_t way_of(const struct names *n, const uint8_t *e)
+{
+    const uint16_t *have = n->have[e[0]][e[1]];
+    bool on = is_on(e);
+
+    return n->by[e[0]][e[1]] + (have[1] > on ? HAD_ON : 0)
+         + (have[0] > !on ? HAD_OFF : 0) + (on ? ON : 0);
+}
+
+/* An entry of a type, each way being as likely as another; or NULL. */
+static uint8_t *pick_way(struct rng *r, struct builder *b, uint8_t type)
+{
+    static struct names names;
+    bool seen[WAYS] = { false };
+    uint32_t way = 0, n = 0;
+    uint8_t *found = NULL;
+
+    find_names(b, &names);
+    EACH(b, type, e) {
+        uint32_t one = way_of(&names, e);
+        if (!seen[one] && rng_below(r, ++n) == 0)
+            way = one;
+        seen[one] = true;
+    }
+    n = 0;
+    EACH(b, type, e)
+        if (way_of(&names, e) == way && rng_below(r, ++n) == 0)
+            found = e;
+    return found;
+}
+
+/* What its own rule forbids, or not: the bootstrap, a name, an address. */
+static void spoil(struct rng *r, uint8_t *e)
+{
+    switch (e[0]) {
+    case 0: e[3] ^= 2; break;
+    case 1: rng_alter(r, e + 2 + rng_below(r, 6)); break;
+    default: put_le(e + 4, rng_chance(r, 50) ? 0 : rng_next(r), 4);
+    }
+}
+
+/* Another ID: one that nobody has, or one of those that are on, or 255. */
+static void change_id(struct rng *r, struct builder *b, const uint8_t *entry,
+                      uint8_t *w)
+{
+    uint32_t roll = rng_below(r, 100);
+    uint8_t type = w[0] == 2 && roll < 14 ? 0 : w[0];   /* that a processor has */
+    const uint8_t *other = pick_other(r, b, type, is_on, entry);
+
+    if (roll < 28 && other != NULL)
+        w[1] = other[1];
+    else if (roll < 36)
+        w[1] = 255;
+    else
+        unlisted(r, b, w[0], true, &w[1]);
+}
+
+/* Another ID, or on or off, and at times what its own rule forbids as well. */
+static bool id_edit(struct rng *r, struct edited *t, struct edit_case *e)
+{
+    const uint8_t *entry = pick_way(r, &t->b, (uint8_t)rng_below(r, 3));
+    uint32_t roll = rng_below(r, 100);
+
+    if (entry == NULL)
+        return false;
+    state_this(t, entry, e);
+    if (roll < 75)
+        change_id(r, &t->b, entry, e->wanted);
+    else if (entry[0] != 1)
+        e->wanted[3] ^= 1;
+    if (roll >= 65 && roll < 80)
+        spoil(r, e->wanted);
+    if (rng_chance(r, 15))
+        change(r, &t->b, e->wanted);
+    expect_edit(t, e);
+    return true;
+}
+
+/* ---- interrupts, by what rule 17 says of them ---- */
+
+static bool interrupt_edit(struct rng *r, struct edited *t, struct edit_case *e)
+{
+    const uint8_t *entry = pick_interrupt(r, &t->b);
+    uint8_t *w = e->wanted;
+
+    if (entry == NULL)
+        return false;
+    state_this(t, entry, e);
+    uint8_t to = w[0] == 3 ? 2 : 0;
+    switch (rng_below(r, 8)) {
+    case 0: w[1] = (uint8_t)rng_range(r, 4, rng_chance(r, 50) ? 4 : 255); break;
+    case 1: w[2] = (uint8_t)((w[2] & 0xFC) | 2); break;
+    case 2: w[2] = (uint8_t)((w[2] & 0xF3) | 8); break;
+    case 3: unlisted(r, &t->b, 1, true, &w[4]); break;
+    case 4: unlisted(r, &t->b, to, false, &w[6]); break;
+    case 5: w[6] = listed_id(r, &t->b, 2 - to); break;   /* of the other side */
+    case 6: w[6] = 255; break;
+    default: w[7] = (uint8_t)rng_range(r, 1, 3);
+    }
+    expect_edit(t, e);
     return true;
 }
 
@@ -368,35 +534,38 @@ static bool break_edit(struct rng *r, struct edited *t, struct edit_case *e)
 /* ---- all of these ---- */
 
 static const struct {
-    uint32_t share;   /* in 100 */
+    uint32_t share[2];   /* in 100: on any table, and on a named_case() */
     const char *label;
-    int expected;
+    int expected;        /* -1: it is worked out */
     bool (*make)(struct rng *r, struct edited *t, struct edit_case *e);
 } kinds[] = {
-    { 27, "sound edit", 0, sound_edit },
-    { 3, "wanted equal to standing", 0, equal_edit },
-    { 6, "changed back", 0, back_edit },
-    { 8, "any bytes", -1, any_edit },
-    { 6, "another ID or other flags", -1, telling_edit },
-    { 5, "place past the last entry", 20, place_edit },
-    { 5, "another length", 21, length_edit },
-    { 3, "another type", 21, type_edit },
-    { 5, "stated bytes differ", 22, stale_edit },
-    { 2, "another entry stated", 22, neighbour_edit },
-    { 3, "the same edit again", 22, again_edit },
-    { 27, "a rule broken", -1, break_edit },   /* it says which */
+    { { 24, 9 }, "sound edit", 0, sound_edit },
+    { { 3, 2 }, "wanted equal to standing", 0, equal_edit },
+    { { 6, 4 }, "changed back", 0, back_edit },
+    { { 7, 2 }, "any bytes", -1, any_edit },
+    { { 5, 2 }, "another ID or other flags", -1, telling_edit },
+    { { 3, 5 }, "checksum 0, 255 or as it was", 0, sum_edit },
+    { { 6, 45 }, "an ID by who names it", -1, id_edit },
+    { { 3, 14 }, "an interrupt by rule 17", -1, interrupt_edit },
+    { { 4, 1 }, "place past the last entry", 20, place_edit },
+    { { 4, 1 }, "another length", 21, length_edit },
+    { { 3, 1 }, "another type", 21, type_edit },
+    { { 5, 1 }, "stated bytes differ", 22, stale_edit },
+    { { 2, 1 }, "another entry stated", 22, neighbour_edit },
+    { { 3, 2 }, "the same edit again", 22, again_edit },
+    { { 22, 10 }, "a rule broken", -1, break_edit },
 };
 
 /* Where the table has no place for one, another is taken. */
-void gen_edit(struct rng *r, struct edited *t, struct edit_case *e)
+void gen_edit(struct rng *r, struct edited *t, bool named, struct edit_case *e)
 {
     size_t k;
 
     do {
         uint32_t roll = rng_below(r, 100);
 
-        for (k = 0; roll >= kinds[k].share; k++)
-            roll -= kinds[k].share;
+        for (k = 0; roll >= kinds[k].share[named]; k++)
+            roll -= kinds[k].share[named];
         e->label = kinds[k].label;
         e->expected = kinds[k].expected;
     } while (!kinds[k].make(r, t, e));

@@ -52,14 +52,6 @@ static bool f14_moved_off(struct rng *r, struct builder *b,
 
 /* ---- 15: name unknown ---- */
 
-static bool known(const uint8_t *name)
-{
-    for (size_t i = 0; i < 18; i++)
-        if (memcmp(name, bus_names[i], 6) == 0)
-            return true;
-    return false;
-}
-
 static bool f15_name(struct rng *r, struct builder *b, const struct fault *f)
 {
     static const char near[10][7] = {
@@ -77,7 +69,7 @@ static bool f15_name(struct rng *r, struct builder *b, const struct fault *f)
     case 2: *letter ^= 0x20; break;
     default: rng_alter(r, e + 7); break;
     }
-    return !known(e + 2);
+    return !known_name(e + 2);
 }
 
 /* ---- 16: enabled I/O APICs ---- */

@@ -62,6 +62,14 @@ bool has_all_types(struct builder *b)
 
 bool any(const uint8_t *e) { (void)e; return true; }
 
+bool known_name(const uint8_t *name)
+{
+    for (size_t i = 0; i < 18; i++)
+        if (memcmp(name, bus_names[i], 6) == 0)
+            return true;
+    return false;
+}
+
 uint8_t *pick_other(struct rng *r, struct builder *b, uint8_t type,
                     want *suits, const uint8_t *not_this)
 {

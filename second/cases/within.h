@@ -16,6 +16,9 @@ typedef bool want(const uint8_t *e);
 
 bool any(const uint8_t *e);
 
+/* Whether six bytes are the name of a bus. */
+bool known_name(const uint8_t *name);
+
 void list_add(struct list *l, uint8_t id);
 
 /* One of them; the list is not empty. */

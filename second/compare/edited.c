@@ -65,20 +65,71 @@ static void test_fresh(const uint8_t *before)
          "bytes behind the table changed");
 }
 
+/* An ID that no entry of its type would have any more, by who alone names it. */
+static const struct {
+    uint8_t type, by;
+    const char *name;
+} ways[] = {
+    { 0, 0, "processor by nobody" },
+    { 0, BY_LOCAL, "processor by local interrupts" },
+    { 0, BY_IO, "processor by I/O interrupts" },
+    { 0, BY_ALL, "processor 255" },
+    { 1, 0, "bus by nobody" },
+    { 1, BY_IO, "bus by I/O interrupts" },
+    { 1, BY_LOCAL, "bus by local interrupts" },
+    { 1, BY_MAPPING, "bus by 128" },
+    { 1, BY_LINK, "bus by 129" },
+    { 1, AS_PARENT, "bus by 129 as the parent" },
+    { 1, BY_MODIFIER, "bus by 130" },
+    { 2, 0, "I/O APIC by nobody" },
+    { 2, BY_IO, "I/O APIC by I/O interrupts" },
+    { 2, BY_LOCAL, "I/O APIC by local interrupts" },
+    { 2, BY_ALL, "I/O APIC 255" },
+};
+
+enum { WAYS = sizeof ways / sizeof ways[0] };
+static number given_up[WAYS];
+
+static void note_id(void)
+{
+    static struct names n;
+    uint8_t type = edit.stated[0], id = edit.stated[1];
+
+    if (type > 2 || edit.wanted[1] == id)
+        return;
+    find_names(&now.b, &n);
+    if (n.have[type][id][0] + n.have[type][id][1] > 1)
+        return;
+    for (size_t i = 0; i < WAYS; i++)
+        given_up[i] += ways[i].type == type && ways[i].by == n.by[type][id];
+}
+
+static void report_ids(number count)
+{
+    printf("IDs given up, by who alone names them:");
+    for (size_t i = 0; i < WAYS; i++) {
+        printf(" %s: %llu%s", ways[i].name, given_up[i], i + 1 < WAYS ? "," : "\n");
+        require(ways[i].name, given_up[i], count / 2000);
+    }
+}
+
 /* An edit of the run; what is accepted is kept. */
 static void edit_next(void)
 {
     static uint8_t before[CASE_ROOM];
 
     memcpy(before, table.bytes, table.size);
-    if (edit_both() != 0)
+    unsigned number = edit_both();
+    if (number == 0 || number == 23)
+        note_id();
+    if (number != 0)
         return;
     keep_edit(&now, &edit);
     test_fresh(before);
 }
 
-/* A run on a table of any kind. */
-static void edit_table(struct rng *r)
+/* A run on a table of any kind, or on one for edits of IDs. */
+static void edit_table(struct rng *r, bool named)
 {
     bool sound = plain_judge(table.bytes, table.size) == 0;
 
@@ -88,7 +139,7 @@ static void edit_table(struct rng *r)
         start_edits(&now, table.bytes);
     for (uint32_t n = 1 + rng_few(r, sound ? 60 : 2); n > 0; n--) {
         if (sound) {
-            gen_edit(r, &now, &edit);
+            gen_edit(r, &now, named, &edit);
             edit_next();
         } else {
             blind_edit(r, &table, &edit);
@@ -118,10 +169,13 @@ static void want_byte(size_t place, size_t at, uint8_t value)
     edit.wanted[at] = value;
 }
 
+/* Where -1 is expected it is worked out. */
 static void check(const char *label, int expected)
 {
     edit.label = label;
     edit.expected = expected;
+    if (expected < 0)
+        expect_edit(&now, &edit);
     edit_next();
 }
 
@@ -287,14 +341,16 @@ void edits(struct rng *r, number count, const char *seed)
     fixed_edits(r);
     number fixed = t.cases;
     memset(inner, 0, sizeof inner);
-    for (t = (struct tally){ 0 }; t.cases < count; ) {
+    memset(given_up, 0, sizeof given_up);
+    for (t = (struct tally){ 0 }; t.cases < 2 * count; ) {
         if (rng_chance(r, 5)) {   /* refused as it stands, whatever it would mend */
             runs++;
             mending_edit(r, &table, &edit);
             edit_both();
         } else {
-            gen_case(r, &table);
-            edit_table(r);
+            bool named = rng_chance(r, 45);
+            (named ? named_case : gen_case)(r, &table);
+            edit_table(r, named);
         }
     }
     printf("edits: %llu fixed, %llu generated in %llu runs, seed %s: no "
@@ -305,4 +361,5 @@ void edits(struct rng *r, number count, const char *seed)
     report_range(t.answered, 20, 23, count);
     printf("the inner numbers of 23:\n");
     report_range(inner, 14, 18, count);
+    report_ids(count);
 }

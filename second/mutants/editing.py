@@ -90,6 +90,33 @@ WRITE = [
  (0, "byte 43 always 0", "t[43] = f->reserved;", "t[43] = 0;"),
 ]
 
+# What the second judging says, changed. The parts of the table, from where to where in steps of an entry:
+AGAIN = "    if ((refusal = plain_judge_again(&walked)) != 0) {\n"
+CPUS = "walked.base[PROCESSOR]", "walked.base[BUS]", 20
+IO_APICS = "walked.base[IO_APIC]", "walked.base[IO_INT]", 8
+IO_INTS = "walked.base[IO_INT]", "walked.base[LOCAL_INT]", 8
+LOCAL_INTS = "walked.base[LOCAL_INT]", "walked.base[BASE_TYPES]", 8
+MAPPINGS = "walked.ext[MAPPING]", "walked.ext[LINK]", 20
+LINKS = "walked.ext[LINK]", "walked.ext[MODIFIER]", 8
+MODIFIERS = "walked.ext[MODIFIER]", "walked.ext[EXT_TYPES]", 8
+
+def instead(where, number, *having):
+    """Where it is so, another number; with rows of (name, part, byte): where an entry of the part has the old ID there."""
+    found = "".join(f"    bool {name} = false;\n" for name in sorted({name for name, _, _ in having}))
+    for name, (first, last, step), byte in having:
+        found += f"    for (size_t k = {first}; k < {last}; k += {step})\n        {name} |= t[k + {byte}] == stated[1];\n"
+    return f"    refusal = plain_judge_again(&walked);\n{found}    if ({where})\n        refusal = {number};\n    if (refusal != 0) {{\n"
+
+def unread(byte):
+    """An interrupt is judged with the old byte."""
+    return ("    refusal = plain_judge_again(&walked);\n    if (t[at] >= IO_INT) {\n"
+            f"        t[at + {byte}] = stated[{byte}];\n        refusal = plain_judge_again(&walked);\n"
+            f"        t[at + {byte}] = wanted[{byte}];\n    }}\n    if (refusal != 0) {{\n")
+
+OF_CPU, OF_BUS, OF_IO_APIC = (f"t[at] == {type} && stated[1] != wanted[1]" for type in ("PROCESSOR", "BUS", "IO_APIC"))
+BUS_NAMED = [("named", IO_INTS, 4), ("named", LOCAL_INTS, 4)]
+EXT_NAMED = [("extended", MAPPINGS, 2), ("extended", LINKS, 2), ("extended", LINKS, 4), ("extended", MODIFIERS, 2)]
+
 EDIT = [
  (20, "one past allowed", "if (place >= get16(t + 34))", "if (place > get16(t + 34))"),
  (20, "last refused", "if (place >= get16(t + 34))", "if (place + 1 >= get16(t + 34))"),
@@ -124,6 +151,67 @@ EDIT = [
  (23, "inner number one off", "return 23 | refusal << 8;", "return 23 | (refusal + (refusal == 18)) << 8;"),
  (23, "not judged again", "if ((refusal = plain_judge_again(&walked)) != 0) {", "if (0) {"),
  (23, "rule 18 not judged again", "if ((refusal = plain_judge_again(&walked)) != 0) {", "if ((refusal = plain_judge_again(&walked)) != 0 && refusal != 18) {"),
+ (23, "rule 14 not judged again", AGAIN, instead("refusal == 14", 0)),
+ (23, "rule 15 not judged again", AGAIN, instead("refusal == 15", 0)),
+ (23, "rule 16 not judged again", AGAIN, instead("refusal == 16", 0)),
+ (23, "rule 17 not judged after a processor", AGAIN, instead("refusal == 17 && t[at] == PROCESSOR", 0)),
+ (23, "rule 17 not judged after a bus", AGAIN, instead("refusal == 17 && t[at] == BUS", 0)),
+ (23, "rule 17 not judged after an I/O APIC", AGAIN, instead("refusal == 17 && t[at] == IO_APIC", 0)),
+ (23, "I/O interrupt not judged", AGAIN, instead("t[at] == IO_INT", 0)),
+ (23, "local interrupt not judged", AGAIN, instead("t[at] == LOCAL_INT", 0)),
+ (23, "type of an interrupt not judged", AGAIN, unread(1)),
+ (23, "flags of an interrupt not judged", AGAIN, unread(2)),
+ (23, "bus of an interrupt not judged", AGAIN, unread(4)),
+ (23, "destination of an interrupt not judged", AGAIN, unread(6)),
+ (23, "input of an interrupt not judged", AGAIN, unread(7)),
+ (23, "second bootstrap not seen", AGAIN, instead("refusal == 14 && wanted[3] & ~stated[3] & BOOTSTRAP", 0)),
+ (23, "bootstrap off not seen", AGAIN, instead("refusal == 14 && stated[3] & ~wanted[3] & ENABLED", 0)),
+ (23, "processor's ID twice not seen", AGAIN, instead(f"refusal == 14 && {OF_CPU} && wanted[1] != ALL", 0)),
+ (23, "processor 255 not seen", AGAIN, instead("refusal == 14 && wanted[1] == ALL", 0)),
+ (23, "processor switched on not judged", AGAIN, instead("refusal == 14 && wanted[3] & ~stated[3] & ENABLED && stated[1] == wanted[1]", 0)),
+ (23, "bus ID twice not seen", AGAIN, instead("refusal == 15 && memcmp(stated + 2, wanted + 2, 6) == 0", 0)),
+ (23, "bus name not judged", AGAIN, instead("refusal == 15 && stated[1] == wanted[1]", 0)),
+ (23, "I/O APIC's ID twice not seen", AGAIN, instead(f"refusal == 16 && {OF_IO_APIC} && wanted[1] != ALL", 0)),
+ (23, "I/O APIC 255 not seen", AGAIN, instead("refusal == 16 && wanted[1] == ALL", 0)),
+ (23, "address not judged", AGAIN, instead("refusal == 16 && stated[1] == wanted[1] && stated[3] == wanted[3]", 0)),
+ (23, "address judged of one that is off", AGAIN, instead("refusal == 0 && t[at] == IO_APIC && (get32(wanted + 4) == 0 || get32(wanted + 4) % 1024 != 0)", 16)),
+ (23, "I/O APIC switched on not judged", AGAIN, instead("refusal == 16 && wanted[3] & ~stated[3] & ENABLED", 0)),
+ (23, "bus of I/O interrupts alone not seen", AGAIN, instead("refusal == 17 && t[at] == BUS && !named", 0, ("named", LOCAL_INTS, 4))),
+ (23, "bus of local interrupts alone not seen", AGAIN, instead("refusal == 17 && t[at] == BUS && !named", 0, ("named", IO_INTS, 4))),
+ (23, "bus of mappings alone not seen", AGAIN, instead("refusal == 18 && !extended", 0, *EXT_NAMED[1:])),
+ (23, "bus of links alone not seen", AGAIN, instead("refusal == 18 && !extended", 0, *EXT_NAMED[:1], *EXT_NAMED[2:])),
+ (23, "parent alone not seen", AGAIN, instead("refusal == 18 && !extended", 0, *EXT_NAMED[:2], *EXT_NAMED[3:])),
+ (23, "bus of modifiers alone not seen", AGAIN, instead("refusal == 18 && !extended", 0, *EXT_NAMED[:3])),
+ (23, "byte 4 of mappings taken for a parent", AGAIN, instead(f"refusal == 0 && {OF_BUS} && named", 18, ("named", MAPPINGS, 4))),
+ (23, "byte 4 of modifiers taken for a parent", AGAIN, instead(f"refusal == 0 && {OF_BUS} && named", 18, ("named", MODIFIERS, 4))),
+ (23, "IRQ taken for a bus", AGAIN, instead(f"refusal == 0 && {OF_BUS} && named", 17, ("named", IO_INTS, 5))),
+ (23, "255 of processors not excepted", AGAIN, instead(f"refusal == 0 && {OF_CPU} && stated[1] == ALL && named && !kept", 17, ("named", LOCAL_INTS, 6), ("kept", CPUS, 1))),
+ (23, "255 of I/O APICs not excepted", AGAIN, instead(f"refusal == 0 && {OF_IO_APIC} && stated[1] == ALL && named && !kept", 17, ("named", IO_INTS, 6), ("kept", IO_APICS, 1))),
+ (23, "another processor of the ID not seen", AGAIN, instead(f"refusal == 0 && {OF_CPU} && stated[1] != ALL && named", 17, ("named", LOCAL_INTS, 6))),
+ (23, "another I/O APIC of the ID not seen", AGAIN, instead(f"refusal == 0 && {OF_IO_APIC} && stated[1] != ALL && named", 17, ("named", IO_INTS, 6))),
+ (23, "processor that I/O interrupts name", AGAIN, instead(f"refusal == 0 && {OF_CPU} && named && !kept", 17, ("named", IO_INTS, 6), ("kept", CPUS, 1))),
+ (23, "I/O APIC that local interrupts name", AGAIN, instead(f"refusal == 0 && {OF_IO_APIC} && stated[1] != ALL && named && !kept", 17, ("named", LOCAL_INTS, 6), ("kept", IO_APICS, 1))),
+ (23, "processor kept by an I/O APIC", AGAIN, instead("refusal == 17 && t[at] == PROCESSOR && kept", 0, ("kept", IO_APICS, 1))),
+ (23, "I/O APIC kept by a processor", AGAIN, instead("refusal == 17 && t[at] == IO_APIC && kept", 0, ("kept", CPUS, 1))),
+ (23, "processor switched off taken for gone", AGAIN, instead("refusal == 0 && t[at] == PROCESSOR && stated[3] & ~wanted[3] & ENABLED && named", 17, ("named", LOCAL_INTS, 6))),
+ (23, "I/O APIC switched off taken for gone", AGAIN, instead("refusal == 0 && t[at] == IO_APIC && stated[3] & ~wanted[3] & ENABLED && named", 17, ("named", IO_INTS, 6))),
+ (23, "processor that is off not missed", AGAIN, instead("refusal == 17 && t[at] == PROCESSOR && !(stated[3] & ENABLED)", 0)),
+ (23, "I/O APIC that is off not missed", AGAIN, instead("refusal == 17 && t[at] == IO_APIC && !(stated[3] & ENABLED)", 0)),
+ (23, "17 before 14", AGAIN, instead(f"refusal == 14 && {OF_CPU} && stated[1] != ALL && named && !kept", 17, ("named", LOCAL_INTS, 6), ("kept", CPUS, 1))),
+ (23, "17 before 15", AGAIN, instead(f"refusal == 15 && {OF_BUS} && named", 17, *BUS_NAMED)),
+ (23, "17 before 16", AGAIN, instead(f"refusal == 16 && {OF_IO_APIC} && stated[1] != ALL && named && !kept", 17, ("named", IO_INTS, 6), ("kept", IO_APICS, 1))),
+ (23, "18 before 15", AGAIN, instead(f"refusal == 15 && {OF_BUS} && extended && !named", 18, *EXT_NAMED, *BUS_NAMED)),
+ (23, "18 before 17", AGAIN, instead("refusal == 17 && t[at] == BUS && extended", 18, *EXT_NAMED)),
+ (0, "old checksum left out", "t[7] + sum(old, size) - sum(new, size)", "sum(old, size) - sum(new, size)"),
+ (0, "old entry left out of the sum", "t[7] + sum(old, size) - sum(new, size)", "t[7] - sum(new, size)"),
+ (0, "new entry left out of the sum", "t[7] + sum(old, size) - sum(new, size)", "t[7] + sum(old, size)"),
+ (0, "sums of eight bytes", "t[7] + sum(old, size) - sum(new, size)", "t[7] + sum(old, 8) - sum(new, 8)"),
+ (0, "last byte left out of the sum", "t[7] + sum(old, size) - sum(new, size)", "t[7] + sum(old, size - 1) - sum(new, size - 1)"),
+ (0, "sums modulo 255", "(uint8_t)(t[7] + sum(old, size) - sum(new, size))", "(uint8_t)((t[7] + sum(old, size) + 255 - sum(new, size)) % 255)"),
+ (0, "checksum not below 0", "(uint8_t)(t[7] + sum(old, size) - sum(new, size))", "(uint8_t)(t[7] + sum(old, size) < sum(new, size) ? 0 : t[7] + sum(old, size) - sum(new, size))"),
+ (0, "checksum not past 255", "(uint8_t)(t[7] + sum(old, size) - sum(new, size))", "(uint8_t)(t[7] + sum(old, size) - sum(new, size) > 255 ? 255 : t[7] + sum(old, size) - sum(new, size))"),
+ (0, "checksum kept where it would be 0", "    t[7] = (uint8_t)(t[7] + sum(old, size) - sum(new, size));\n", "    uint8_t byte = (uint8_t)(t[7] + sum(old, size) - sum(new, size));\n    if (byte != 0)\n        t[7] = byte;\n"),
+ (0, "entry kept where the sum stays", "    memcpy(t + at, new, size);\n", "    if (sum(old, size) != sum(new, size))\n        memcpy(t + at, new, size);\n"),
  (0, "checksum left", "    t[7] = (uint8_t)(t[7] + sum(old, size) - sum(new, size));\n", ""),
  (0, "checksum the other way", "t[7] + sum(old, size) - sum(new, size)", "t[7] - sum(old, size) + sum(new, size)"),
  (0, "table not judged first", "    if ((refusal = plain_judge_walk(t, n, &walked)) != 0)\n        return refusal;\n", "    if ((refusal = plain_judge_walk(t, n, &walked)) != 0 && refusal < 14)\n        return refusal;\n"),
