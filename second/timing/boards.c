@@ -88,15 +88,18 @@ static void must_be_full(const struct builder *b, size_t goal, size_t ext_goal)
     exit(2);
 }
 
-/* Full, but for so many bytes of the extended part. */
-static void mixed(struct builder *b, uint32_t part, size_t less)
+/*
+ * Full, but for so many bytes of the extended part.  With spare 1, the last of the
+ * processors, of the buses and of the I/O APICs is named by nothing else.
+ */
+static void mixed(struct builder *b, uint32_t part, size_t less, uint32_t spare)
 {
     size_t goal = PART_LIMIT / part;
 
-    /* 16 enabled ones and a disabled one: 4,096 needs an odd number. */
-    processors(b, 16 / part, 1);
-    buses(b, 32 / part);
-    io_apics(b, 16, 8 / part);
+    /* 16 enabled ones, and a disabled or spare one: 4,096 needs an odd number. */
+    processors(b, 16 / part + spare, 1 - spare);
+    buses(b, 32 / part + spare);
+    io_apics(b, 16, 8 / part + spare);
 
     uint32_t n = (uint32_t)(base_left(b, goal) / 8);
     interrupts(b, 3, n - n / 8, 32 / part, 16, 8 / part);
@@ -110,12 +113,17 @@ static void mixed(struct builder *b, uint32_t part, size_t less)
 
 void make_mixed(struct builder *b, uint32_t part)
 {
-    mixed(b, part, 0);
+    mixed(b, part, 0, 0);
 }
 
 void make_large(struct builder *b, uint32_t part)
 {
-    mixed(b, part, 16);
+    mixed(b, part, 16, 0);
+}
+
+void make_spare(struct builder *b, uint32_t part)
+{
+    mixed(b, part, 0, 1);
 }
 
 void make_smallest(struct builder *b, uint32_t part)

@@ -9,8 +9,11 @@
 /* Fills a started builder; with part 2, half of what is meant. */
 typedef void make_board(struct builder *b, uint32_t part);
 
-/* Both parts full, entries of all types in them; and 16 bytes less. */
-make_board make_mixed, make_large;
+/*
+ * Both parts full, entries of all types in them; 16 bytes less; and full again, with
+ * a processor, a bus and an I/O APIC that nothing names, each the last of its type.
+ */
+make_board make_mixed, make_large, make_spare;
 
 /*
  * Little but so many entries of one type.  The buses have all names in turn, or

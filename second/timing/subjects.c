@@ -16,7 +16,7 @@ uint8_t room[ROOM_SIZE];
 static struct builder b;
 
 static timed *const programs[PROGRAMS] = {
-    [OURS] = timed_library, [PLAIN_O2] = timed_plain, [PLAIN_O3] = timed_plain_o3,
+    [OURS] = timed_library, [PLAIN_O2] = timed_plain, [THIRD] = timed_third,
 };
 
 uint64_t call_program(int program, struct subject *s)
@@ -36,7 +36,10 @@ struct board {
 };
 
 enum {
-    EVERY = BIT(BOOK) - 1,   /* all that is not done with books */
+    CHANGES = BIT(EDIT_ENTRY) | BIT(EDIT_ID) | BIT(EDIT_ID_REFUSED),
+    /* All that is not done with books, nor to an entry of a certain type. */
+    EVERY = (BIT(BOOK) - 1) & ~CHANGES,
+    REFUSED = BIT(EDIT_REFUSED) | BIT(EDIT_ID_REFUSED),
     DUMPS = BIT(READ) | BIT(ADDRESSES) | BIT(LIST) | BIT(LIST_FITTING),
     LISTS = BIT(JUDGE) | BIT(LIST) | BIT(LIST_FITTING),
     BOTH_ROUTES = BIT(ROUTES) | BIT(LOCAL_ROUTES),
@@ -45,10 +48,14 @@ enum {
 
 static const struct board boards[] = {
     /* It has no slot to ask about. */
-    { "bench board", make_bench, 0, FIRST, EVERY & ~BIT(SLOT_ROUTES), 0 },
+    { "bench board", make_bench, 0, FIRST,
+      (EVERY & ~BIT(SLOT_ROUTES)) | BIT(EDIT_ENTRY), 0 },
     { "bench board on PCI", make_pci_bench, 0, FIRST, BOTH_SLOTS, 0 },
-    { "a typical board, 42 entries", make_typical, 0, FIRST, EVERY, 0 },
-    { "full table, all entry types", make_mixed, 0, FIRST, EVERY, EVERY },
+    { "a typical board, 42 entries", make_typical, 0, FIRST,
+      EVERY | BIT(EDIT_ENTRY), 0 },
+    { "full table, all entry types", make_mixed, 0, FIRST,
+      EVERY | BIT(EDIT_ENTRY) | BIT(EDIT_ID_REFUSED), EVERY },
+    { "full table, some IDs unnamed", make_spare, 0, FIRST, BIT(EDIT_ID), 0 },
     { "full table in 65,536 bytes", make_mixed, SUBJECT_ROOM, LAST, EVERY, DUMPS },
     { "65,536 bytes, pointer in the last paragraph", make_typical, SUBJECT_ROOM,
       LAST, BIT(READ) | BIT(LIST) | BIT(LIST_FITTING), 0 },
@@ -90,11 +97,48 @@ static const struct board boards[] = {
       BIT(RENUMBER), BIT(RENUMBER) },
 };
 
+/* ---- edits of a certain type ---- */
+
+/*
+ * What of an entry is changed, and to what.  Which rules have to be tested again
+ * depends on the type, and on whether an ID changes that others may name.  The ID
+ * 200 is free on the boards in question.
+ */
+struct change {
+    const char *what;
+    enum work work;
+    uint8_t type, at;
+    const char *bytes;
+};
+
+static const struct change changes[] = {
+    { "edit a processor", EDIT_ENTRY, 0, 8, "\1" },      /* a feature flag */
+    { "edit a bus", EDIT_ENTRY, 1, 2, "EISA  " },
+    { "edit an I/O APIC", EDIT_ENTRY, 2, 2, "\x20" },    /* its version */
+    { "edit a processor's ID", EDIT_ID, 0, 1, "\xC8" },
+    { "edit a bus's ID", EDIT_ID, 1, 1, "\xC8" },
+    { "edit an I/O APIC's ID", EDIT_ID, 2, 1, "\xC8" },
+    { "edit a bus's ID, refused with 23", EDIT_ID_REFUSED, 1, 1, "\xC8" },
+};
+
 /* ---- what is asked of the board in b ---- */
 
 static size_t entry_length(const uint8_t *entry)
 {
     return entry[0] == 0 ? 20 : 8;
+}
+
+/* The entry at a place, twice: what is wanted there is still to be changed. */
+static void ask_place(struct subject *s, size_t place)
+{
+    size_t at = 0;
+
+    s->place = place;
+    for (size_t i = 0; i < s->place; i++)
+        at += entry_length(b.base + at);
+    s->entry_size = entry_length(b.base + at);
+    memcpy(s->entry[0], b.base + at, s->entry_size);
+    memcpy(s->entry[1], b.base + at, s->entry_size);
 }
 
 /*
@@ -103,18 +147,39 @@ static size_t entry_length(const uint8_t *entry)
  */
 static void ask_edit(struct subject *s)
 {
-    size_t at = 0;
-
-    s->place = b.count - 1;
-    for (size_t i = 0; i < s->place; i++)
-        at += entry_length(b.base + at);
-    s->entry_size = entry_length(b.base + at);
-    memcpy(s->entry[0], b.base + at, s->entry_size);
-    memcpy(s->entry[1], b.base + at, s->entry_size);
+    ask_place(s, b.count - 1);
     if (s->work == EDIT_REFUSED)
         s->entry[1][1] = 4;
     else
         s->entry[1][5] ^= 1;
+}
+
+/* How many entries have a type below this one. */
+static size_t count_below(unsigned type)
+{
+    size_t n = 0;
+
+    for (size_t at = 0; at < b.base_len && b.base[at] < type; n++)
+        at += entry_length(b.base + at);
+    return n;
+}
+
+/*
+ * The entry in the middle of its type, where the ID stays; else the last of its
+ * type, which nothing names on one of the boards: elsewhere an interrupt does, and
+ * that is refused with 17.
+ */
+static void ask_change(struct subject *s, const struct change *c)
+{
+    size_t first = count_below(c->type), end = count_below(c->type + 1u);
+
+    ask_place(s, s->work == EDIT_ENTRY ? (first + end) / 2 : end - 1);
+    memcpy(s->entry[1] + c->at, c->bytes, strlen(c->bytes));
+    if (s->entry[0][0] != c->type
+        || memcmp(s->entry[0], s->entry[1], s->entry_size) == 0) {
+        fprintf(stderr, "%s: nothing to change\n", label(s));
+        exit(2);
+    }
 }
 
 static void ask_write(struct subject *s)
@@ -216,7 +281,7 @@ static const char *const works[WORKS] = {
 const char *label(const struct subject *s)
 {
     static char text[2 * LABEL_WIDTH];
-    int n = snprintf(text, sizeof text, "%s: %s", works[s->work], s->name);
+    int n = snprintf(text, sizeof text, "%s: %s", s->what, s->name);
 
     if (BIT(s->work) & (BOTH_ROUTES | BIT(SLOT_ROUTES)))
         snprintf(text + n, sizeof text - (size_t)n, ", pairs %zu",
@@ -238,7 +303,7 @@ static bool expected(enum pointer pointer, enum work work, uint64_t answer)
 {
     if (work == ADDRESSES)
         return answer != 0;
-    return (answer & 0xFFFF) == (work == EDIT_REFUSED ? 23 | 17 << 8
+    return (answer & 0xFFFF) == (BIT(work) & REFUSED ? 23 | 17 << 8
                                  : work == SAVE_REFUSED ? 28
                                  : pointer == NOWHERE ? 2 : 0);
 }
@@ -297,19 +362,24 @@ static struct subject *new_subject(const char *name, enum work work,
     }
     builder_start(&b, 0xFEE00000u);
     make(&b, part);
+    s->what = works[work];
     s->name = name;
     s->work = work;
     s->room = sizeof room;
     return s;
 }
 
-static void make_subject(const struct board *k, enum work work, uint32_t part)
+static void make_subject(const struct board *k, enum work work,
+                         const struct change *c, uint32_t part)
 {
     struct subject *s = new_subject(k->name, work, k->make, part);
 
+    if (c != NULL)
+        s->what = c->what;
     lay_out(k, s, part);
     switch (work) {
     case EDIT: case EDIT_REFUSED: ask_edit(s); break;
+    case EDIT_ENTRY: case EDIT_ID: case EDIT_ID_REFUSED: ask_change(s, c); break;
     case WRITE: ask_write(s); break;
     case ROUTES: ask_routes(s, 3); break;
     case LOCAL_ROUTES: ask_routes(s, 4); break;
@@ -334,17 +404,25 @@ static void make_book(const struct volume *v, enum work work, uint32_t part)
     check(FIRST, s);
 }
 
-static void make_of_boards(enum work work, bool doubled)
+/* NULL for the change where the work is none. */
+static void make_of_boards(enum work work, const struct change *c, bool doubled)
 {
     for (size_t i = 0; i < sizeof boards / sizeof boards[0]; i++) {
         const struct board *k = &boards[i];
 
         if (!((doubled ? k->doubled : k->rows) & BIT(work)))
             continue;
-        make_subject(k, work, 1);
+        make_subject(k, work, c, 1);
         if (doubled)
-            make_subject(k, work, 2);
+            make_subject(k, work, c, 2);
     }
+}
+
+static void make_of_changes(enum work work, bool doubled)
+{
+    for (size_t i = 0; i < sizeof changes / sizeof changes[0]; i++)
+        if (changes[i].work == work)
+            make_of_boards(work, &changes[i], doubled);
 }
 
 static void make_of_volumes(enum work work, bool doubled)
@@ -361,7 +439,10 @@ static void make_of_volumes(enum work work, bool doubled)
 static void make_all(bool doubled)
 {
     for (enum work work = 0; work < WORKS; work++) {
-        make_of_boards(work, doubled);
+        if (BIT(work) & CHANGES)
+            make_of_changes(work, doubled);
+        else
+            make_of_boards(work, NULL, doubled);
         make_of_volumes(work, doubled);
     }
 }

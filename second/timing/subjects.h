@@ -6,23 +6,25 @@
 
 #include <stdbool.h>
 
-enum { OURS, PLAIN_O2, PLAIN_O3, PROGRAMS };
+/* The third is the plain program at -O3 or, in its place, an earlier library. */
+enum { OURS, PLAIN_O2, THIRD, PROGRAMS };
 enum {
     SUBJECTS_MAX = 170, SUBJECT_ROOM = 65536, ROOM_SIZE = 1 << 17,
     LABEL_WIDTH = 67
 };
 
 enum work {
-    JUDGE, PARTS, READ, ADDRESSES, LIST, LIST_FITTING, EDIT, EDIT_REFUSED, WRITE,
-    ROUTES, LOCAL_ROUTES, SLOT_ROUTES, SLOTS, RENUMBER, ADDRESS, IO_ADDRESS, WALK,
-    BOOK, LATEST, BODY, HISTORY, SAVE, SAVE_REFUSED, RESTORE,
+    JUDGE, PARTS, READ, ADDRESSES, LIST, LIST_FITTING, EDIT, EDIT_ENTRY, EDIT_ID,
+    EDIT_REFUSED, EDIT_ID_REFUSED, WRITE, ROUTES, LOCAL_ROUTES, SLOT_ROUTES, SLOTS,
+    RENUMBER, ADDRESS, IO_ADDRESS, WALK, BOOK, LATEST, BODY, HISTORY, SAVE,
+    SAVE_REFUSED, RESTORE,
     WORKS
 };
 
 #define BIT(work) (1u << (work))
 
 struct subject {
-    const char *name;
+    const char *what, *name;   /* is done; and of the board or book */
     enum work work;
     size_t size;
     uint64_t answer;
@@ -77,6 +79,6 @@ uint64_t call_program(int program, struct subject *s);
 
 /* The same of each program: timed.c, compiled three times. */
 typedef uint64_t timed(struct subject *s);
-timed timed_library, timed_plain, timed_plain_o3;
+timed timed_library, timed_plain, timed_third;
 
 #endif

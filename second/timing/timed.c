@@ -1,6 +1,7 @@
 /*
  * One timed call on a subject, as TIMED of one program: compiled for the library
- * with LIBRARY, and for the plain program at each level of optimisation.
+ * with LIBRARY, and for the plain program at each level of optimisation.  For an
+ * earlier library, with LIBRARY and its calls by other names.
  */
 #include "subjects.h"
 
