@@ -8,7 +8,7 @@ use lib.ListN.{length}
 use lib.Dec.{eqb}
 use Rattle.mps.specs.Words.{among, any, each, every, twice, keep}
 use Rattle.mps.specs.Layout.{Entry, ofType, processorType, ioApicType, mappingType, modifierType, everyone, enabled, localApic, localApicStep, extendedBus, baseEntries, extendedEntries}
-use Rattle.mps.specs.Rules.{enabledOf, enabledIds, bootstraps, misplaced, wrongProcessors, wrongIoApics, wrongMapping, wrongHierarchy, wrongModifier, links, circle, wrongSpaces}
+use Rattle.mps.specs.Rules.{enabledOf, enabledIds, bootstraps, misplaced, wrongProcessors, wrongBuses, wrongIoApics, wrongInterrupts, wrongMapping, wrongHierarchy, wrongModifier, links, circle, wrongSpaces}
 use Rattle.mps.specs.Judge.{tableRules, tableRefusal}
 use Rattle.laws.proofs.Tests.{or-parts}
 use Rattle.laws.proofs.Refusals.{refusal-pass}
@@ -62,18 +62,37 @@ pub record Obeyed (t : List ℕ) : Type 0 where
   pub ioapics-not-255 : among everyone (enabledIds ioApicType (baseEntries t)) ≡ false
   pub parents : OneParent (baseEntries t) (extendedEntries t)
 
-pub obeyed : (t : List ℕ) → tableRefusal t ≡ 0 → Obeyed t
+-- All of the five rules.
+pub record Keeps (t : List ℕ) : Type 0 where
+  pub processors : wrongProcessors t ≡ false
+  pub buses : wrongBuses (baseEntries t) ≡ false
+  pub ioapics : wrongIoApics (baseEntries t) ≡ false
+  pub interrupts : wrongInterrupts (baseEntries t) ≡ false
+  pub spaces : wrongSpaces (baseEntries t) (extendedEntries t) ≡ false
+
+pub keeps : (t : List ℕ) → tableRefusal t ≡ 0 → Keeps t
 unfolding tableRules
-obeyed t e =
+keeps t e =
     let fourteen = refusal-pass 14 _ _ (omega arith) (sym (sound-rest t (sound t e)) ∙ e) in
     let fifteen = refusal-pass 15 _ _ (omega arith) (fourteen .1) in
     let sixteen = refusal-pass 16 _ _ (omega arith) (fifteen .1) in
     let seventeen = refusal-pass 17 _ _ (omega arith) (sixteen .1) in
     let eighteen = refusal-pass 18 _ _ (omega arith) (seventeen .1) in
     record {
-      processors = processors-single t (fourteen .0) .1;
-      processors-not-255 = processors-single t (fourteen .0) .0;
-      ioapics = ioapics-single (baseEntries t) (sixteen .0) .1;
-      ioapics-not-255 = ioapics-single (baseEntries t) (sixteen .0) .0;
-      parents = spaces-one-parent (baseEntries t) (extendedEntries t) (eighteen .0);
+      processors = fourteen .0;
+      buses = fifteen .0;
+      ioapics = sixteen .0;
+      interrupts = seventeen .0;
+      spaces = eighteen .0;
+    }
+
+pub obeyed : (t : List ℕ) → tableRefusal t ≡ 0 → Obeyed t
+obeyed t e =
+    let k = keeps t e in
+    record {
+      processors = processors-single t (k .processors) .1;
+      processors-not-255 = processors-single t (k .processors) .0;
+      ioapics = ioapics-single (baseEntries t) (k .ioapics) .1;
+      ioapics-not-255 = ioapics-single (baseEntries t) (k .ioapics) .0;
+      parents = spaces-one-parent (baseEntries t) (extendedEntries t) (k .spaces);
     }

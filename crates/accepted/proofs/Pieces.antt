@@ -174,14 +174,16 @@ base-told = record { some = some; by-first = λ a b e. rw e }
     some : (s : List ℕ) → 0 < baseEntryLength s
     some s = whether (eqb (byte s 0) 0) (λ t. rw t (omega arith)) (λ f. rw f (omega arith))
 
--- An entry without a fault is whole.
-fault-whole : (before : ℕ) (e : Entry) → entryFault before e ≡ 0 → baseEntryLength e ≤ length e
+-- An entry without a fault is of a known type, and whole.
+pub no-fault :
+    (before : ℕ) (e : Entry) → entryFault before e ≡ 0 → (type e ≤ lastBaseType) × (baseEntryLength e ≤ length e)
 unfolding entryFault refusal
-fault-whole before e f =
+no-fault before e f =
     let rows : List Rule = orderNumber when ltb (type e) before ∷ [] in
     let short = ltb (length e) (baseEntryLength e) in
     let typed = refusal-pass typeNumber (ltb lastBaseType (type e)) (cutNumber when short ∷ rows) (omega arith) f in
-    ltb-false (length e) (baseEntryLength e) (refusal-pass cutNumber short rows (omega arith) (typed .1) .0)
+    let uncut = refusal-pass cutNumber short rows (omega arith) (typed .1) in
+    (ltb-false lastBaseType (type e) (typed .0), ltb-false (length e) (baseEntryLength e) (uncut .0))
 
 -- And so are those of a walk without one.
 pub walked-whole : (before : ℕ) (es : List Entry) → walkFrom before es ≡ 0 → whole baseEntryLength es ≡ true
@@ -189,7 +191,14 @@ unfolding walkFrom whole every
 walked-whole before [] w = refl
 walked-whole before (e ∷ es) w =
     let p = first-none (entryFault before e) (walkFrom (type e) es) w in
-    rw (le-leb (baseEntryLength e) (length e) (fault-whole before e (p .0))) (walked-whole (type e) es (p .1))
+    rw (le-leb (baseEntryLength e) (length e) (no-fault before e (p .0) .1)) (walked-whole (type e) es (p .1))
+
+pub walked-type : (before : ℕ) (es : List Entry) → walkFrom before es ≡ 0 → (i : ℕ) → i < length es → type (getD es i []) ≤ lastBaseType
+unfolding walkFrom
+walked-type before [] w i h = absurd (omega arith)
+walked-type before (e ∷ es) w zero h = no-fault before e (first-none (entryFault before e) (walkFrom (type e) es) w .0) .0
+walked-type before (e ∷ es) w (suc i) h =
+    walked-type (type e) es (first-none (entryFault before e) (walkFrom (type e) es) w .1) i (omega arith)
 
 -- Whole ones have at least eight bytes each.
 pub whole-least : (es : List Entry) → whole baseEntryLength es ≡ true → length es * entrySize ≤ length (asOne es)

@@ -16,7 +16,7 @@ use Rattle.sums.proofs.Laws.{stored-sum}
 use Rattle.numbers.proofs.Laws.{le-take, le-drop}
 
 -- Whatever byte is stored as the checksum, the length of the base stays.
-base-set : (t : List ℕ) (x : ℕ) → baseLength (set t checksumAt x) ≡ baseLength t
+pub base-set : (t : List ℕ) (x : ℕ) → baseLength (set t checksumAt x) ≡ baseLength t
 base-set t x =
     rw (← le-take 2 checksumAt (set t checksumAt x) 4 (omega arith), take-set-le checksumAt t checksumAt x (omega arith))
     (le-take 2 checksumAt t 4 (omega arith))

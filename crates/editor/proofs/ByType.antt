@@ -16,46 +16,30 @@ use Rattle.mps.specs.Rules.{Side, ioSide, localSide, idsOf, isListed, enabledOf
 use Rattle.mps.specs.Judge.{tableRules, tableRefusal}
 use Rattle.mps.specs.Edits.{Edit, standing, editedTable}
 use Rattle.laws.proofs.Tests.{or-parts, either}
-use Rattle.laws.proofs.Refusals.{refusal-pass}
+use Rattle.laws.proofs.Lists.{keep-set-out, any-keep-set, among-keep-set}
 use Rattle.accepted.proofs.Sound.{sound, sound-rest}
+use Rattle.accepted.proofs.Obeyed.{Keeps, keeps}
 use Rattle.accepted.proofs.Shaped.{Shaped}
 use Rattle.mps.specs.declared.Fields.{Fields}
 use Rattle.mps.specs.Writing.{fieldsOf}
 use Rattle.accepted.proofs.Replaced.{replaced-sound, replaced-entries, replaced-extended-entries, replaced-fields}
-use Rattle.editor.specs.Amended.{has, named, endsAtLost, comesFrom, speaksOf, processorRules, busRules, ioApicRules, ioInterruptRules, localInterruptRules}
-use Rattle.editor.proofs.Lists.{keep-set-out, any-keep-set, among-keep-set}
+use Rattle.judge.specs.Rolled.{named}
+use Rattle.editor.specs.Amended.{has, endsAtLost, comesFrom, speaksOf, processorRules, busRules, ioApicRules, ioInterruptRules, localInterruptRules}
 use Rattle.editor.proofs.Losses.{Loses, loses-none, loses-one, nameable, interrupts-lose, spaces-lose}
 
--- ---- The rules that an accepted table keeps
+-- Rule 17 by its parts.
+record Sides (es : List Entry) : Type 0 where
+  io : wrongOnSide ioSide es ≡ false
+  locally : wrongOnSide localSide es ≡ false
+  inputs : any wrongInput (keep (ofType localInterruptType) es) ≡ false
 
-record Keeps (t : List ℕ) : Type 0 where
-  processors : wrongProcessors t ≡ false
-  buses : wrongBuses (baseEntries t) ≡ false
-  ioapics : wrongIoApics (baseEntries t) ≡ false
-  io : wrongOnSide ioSide (baseEntries t) ≡ false
-  locally : wrongOnSide localSide (baseEntries t) ≡ false
-  inputs : any wrongInput (keep (ofType localInterruptType) (baseEntries t)) ≡ false
-  spaces : wrongSpaces (baseEntries t) (extendedEntries t) ≡ false
-
-keeps : (t : List ℕ) → tableRefusal t ≡ 0 → Keeps t
-unfolding tableRules wrongInterrupts
-keeps t a =
-    let fourteen = refusal-pass 14 _ _ (omega arith) (sym (sound-rest t (sound t a)) ∙ a) in
-    let fifteen = refusal-pass 15 _ _ (omega arith) (fourteen .1) in
-    let sixteen = refusal-pass 16 _ _ (omega arith) (fifteen .1) in
-    let seventeen = refusal-pass 17 _ _ (omega arith) (sixteen .1) in
-    let eighteen = refusal-pass 18 _ _ (omega arith) (seventeen .1) in
-    let sides = or-parts _ _ (seventeen .0) in
-    let both = or-parts _ _ (sides .0) in
-    record {
-      processors = fourteen .0;
-      buses = fifteen .0;
-      ioapics = sixteen .0;
-      io = both .0;
-      locally = both .1;
-      inputs = sides .1;
-      spaces = eighteen .0;
-    }
+sides : (es : List Entry) → wrongInterrupts es ≡ false → Sides es
+unfolding wrongInterrupts
+sides es w =
+    let inputs = any wrongInput (keep (ofType localInterruptType) es) in
+    let all = or-parts (wrongOnSide ioSide es || wrongOnSide localSide es) inputs w in
+    let both = or-parts (wrongOnSide ioSide es) (wrongOnSide localSide es) (all .0) in
+    record { io = both .0; locally = both .1; inputs = all .1 }
 
 module _ (t : List ℕ) (e : Edit) (a : tableRefusal t ≡ 0) (h : Shaped t e) where
   abbrev es : List Entry
@@ -72,6 +56,9 @@ module _ (t : List ℕ) (e : Edit) (a : tableRefusal t ≡ 0) (h : Shaped t e) w
 
   k : Keeps t
   k = keeps t a
+
+  i : Sides es
+  i = sides es (k .interrupts)
 
   entries : fs ≡ set es (e .place) (e .wanted)
   entries = replaced-entries t e (sound t a) h
@@ -98,7 +85,7 @@ module _ (t : List ℕ) (e : Edit) (a : tableRefusal t ≡ 0) (h : Shaped t e) w
   rest : tableRefusal (editedTable t e) ≡ refusal (drop 9 (tableRules (editedTable t e)))
   rest = sound-rest (editedTable t e) (replaced-sound t e (sound t a) h)
 
-  -- ---- By the type of the entry: m is no n where `eqb m n` is false
+  -- ---- By the type of the entry, m; `eqb m n ≡ false` says that n is another
 
   module _ {m : ℕ} (q : type (e .wanted) ≡ m) where
     others : (n : ℕ) → eqb m n ≡ false → keep (ofType n) fs ≡ keep (ofType n) es
@@ -125,8 +112,7 @@ module _ (t : List ℕ) (e : Edit) (a : tableRefusal t ≡ 0) (h : Shaped t e) w
     targets-stay : (n : ℕ) → eqb m n ≡ false → Loses (nameable es n) (nameable fs n) false old
     targets-stay n d = loses-none (nameable es n) (nameable fs n) old (λ y. rw (ids-stay n d))
 
-    target-goes : Loses (nameable es m) (nameable fs m) (not (named (editedTable t e) m old)) old
-    unfolding named
+    target-goes : Loses (nameable es m) (nameable fs m) (not (named m (editedTable t e) old)) old
     target-goes =
         loses-one (nameable es m) (nameable fs m) old
         (λ y b d. either (eqb y everyone) (among y (idsOf m es)) b
@@ -148,7 +134,7 @@ module _ (t : List ℕ) (e : Edit) (a : tableRefusal t ≡ 0) (h : Shaped t e) w
     ioapics-kept d = rw (others ioApicType d) (k .ioapics)
 
     inputs-kept : eqb m localInterruptType ≡ false → any wrongInput (keep (ofType localInterruptType) fs) ≡ false
-    inputs-kept d = rw (others localInterruptType d) (k .inputs)
+    inputs-kept d = rw (others localInterruptType d) (i .inputs)
 
     spaces-kept : eqb m busType ≡ false → wrongSpaces fs xs ≡ false
     spaces-kept d = rw extended (spaces-lose es fs old false (buses-stay d) (extendedEntries t) (k .spaces))
@@ -174,11 +160,11 @@ module _ (t : List ℕ) (e : Edit) (a : tableRefusal t ≡ 0) (h : Shaped t e) w
         (side : Side) → m ≡ side .interrupts → wrongOnSide side es ≡ false → eqb m busType ≡ false → eqb m (side .targets) ≡ false
         → wrongOnSide side fs ≡ wrongInterrupt fs (side .targets) (e .wanted)
     unfolding wrongOnSide
-    side-alone side i w b n =
+    side-alone side same w b n =
         let wrong = wrongInterrupt fs (side .targets) in
         let of = ofType (side .interrupts) in
         ap (λ (l : List Entry). any wrong (keep of l)) entries
-        ∙ any-keep-set wrong of es (e .place) (e .wanted) there (eq-eqb (type (e .wanted)) (side .interrupts) (q ∙ i))
+        ∙ any-keep-set wrong of es (e .place) (e .wanted) there (eq-eqb (type (e .wanted)) (side .interrupts) (q ∙ same))
         (interrupts-lose es fs old false (buses-stay b) (side .targets) false (targets-stay (side .targets) n) (keep of es) w)
 
   -- ---- The rows that are left
@@ -186,13 +172,13 @@ module _ (t : List ℕ) (e : Edit) (a : tableRefusal t ≡ 0) (h : Shaped t e) w
   pub by-processor : type (e .wanted) ≡ processorType → tableRefusal (editedTable t e) ≡ refusal (processorRules (editedTable t e) old)
   unfolding tableRules wrongInterrupts processorRules endsAtLost refusal
   by-processor q =
-      let to = not (named (editedTable t e) processorType old) in
+      let to = not (named processorType (editedTable t e) old) in
       rest
       ∙ rw (
         buses-kept q refl,
         ioapics-kept q refl,
-        side-kept q ioSide refl (k .io) refl refl,
-        side-loses q localSide refl (k .locally) false to (buses-stay q refl) (target-goes q),
+        side-kept q ioSide refl (i .io) refl refl,
+        side-loses q localSide refl (i .locally) false to (buses-stay q refl) (target-goes q),
         inputs-kept q refl,
         spaces-kept q refl,
         or-false (to && any (has 6 old) (keep (ofType localInterruptType) fs)),
@@ -201,14 +187,14 @@ module _ (t : List ℕ) (e : Edit) (a : tableRefusal t ≡ 0) (h : Shaped t e) w
   pub by-io-apic : type (e .wanted) ≡ ioApicType → tableRefusal (editedTable t e) ≡ refusal (ioApicRules (editedTable t e) old)
   unfolding tableRules wrongInterrupts ioApicRules endsAtLost refusal
   by-io-apic q =
-      let to = not (named (editedTable t e) ioApicType old) in
+      let to = not (named ioApicType (editedTable t e) old) in
       let lost = to && any (has 6 old) (keep (ofType ioInterruptType) fs) in
       rest
       ∙ rw (
         processors-kept q refl,
         buses-kept q refl,
-        side-loses q ioSide refl (k .io) false to (buses-stay q refl) (target-goes q),
-        side-kept q localSide refl (k .locally) refl refl,
+        side-loses q ioSide refl (i .io) false to (buses-stay q refl) (target-goes q),
+        side-kept q localSide refl (i .locally) refl refl,
         inputs-kept q refl,
         spaces-kept q refl,
         or-false lost,
@@ -233,8 +219,8 @@ module _ (t : List ℕ) (e : Edit) (a : tableRefusal t ≡ 0) (h : Shaped t e) w
       ∙ rw (
         processors-kept q refl,
         ioapics-kept q refl,
-        side-loses q ioSide refl (k .io) gone false (bus-goes q) (targets-stay q ioApicType refl),
-        side-loses q localSide refl (k .locally) gone false (bus-goes q) (targets-stay q processorType refl),
+        side-loses q ioSide refl (i .io) gone false (bus-goes q) (targets-stay q ioApicType refl),
+        side-loses q localSide refl (i .locally) gone false (bus-goes q) (targets-stay q processorType refl),
         inputs-kept q refl,
         or-false (gone && io),
         or-false (gone && locally),
@@ -254,8 +240,8 @@ module _ (t : List ℕ) (e : Edit) (a : tableRefusal t ≡ 0) (h : Shaped t e) w
         processors-kept q refl,
         buses-kept q refl,
         ioapics-kept q refl,
-        side-alone q ioSide refl (k .io) refl refl,
-        side-kept q localSide refl (k .locally) refl refl,
+        side-alone q ioSide refl (i .io) refl refl,
+        side-kept q localSide refl (i .locally) refl refl,
         inputs-kept q refl,
         spaces-kept q refl,
         or-false wrong,
@@ -271,8 +257,8 @@ module _ (t : List ℕ) (e : Edit) (a : tableRefusal t ≡ 0) (h : Shaped t e) w
         processors-kept q refl,
         buses-kept q refl,
         ioapics-kept q refl,
-        side-kept q ioSide refl (k .io) refl refl,
-        side-alone q localSide refl (k .locally) refl refl,
+        side-kept q ioSide refl (i .io) refl refl,
+        side-alone q localSide refl (i .locally) refl refl,
         input,
         spaces-kept q refl,
       )
@@ -281,4 +267,4 @@ module _ (t : List ℕ) (e : Edit) (a : tableRefusal t ≡ 0) (h : Shaped t e) w
       input =
           rw entries
           (any-keep-set wrongInput (ofType localInterruptType) es (e .place) (e .wanted)
-          there (eq-eqb (type (e .wanted)) localInterruptType q) (k .inputs))
+          there (eq-eqb (type (e .wanted)) localInterruptType q) (i .inputs))

@@ -5,7 +5,7 @@ use mathlib.Core.Path.{_≡_, refl, ap, sym, _∙_}
 use mathlib.Core.List.{List}
 use native.Mathlib.Omega.{arith}
 use lib.ListN.{length, take, drop, set}
-use lib.Seq.{sets, set-set, set-getD, take-take, take-set-le, take-set-lt, getD-take, length-take-le}
+use lib.Seq.{sets, set-set, set-getD, take-take, take-set-lt, getD-take, length-take-le}
 use borrow.Author.Tests.{ne-eqb}
 use Rattle.mps.specs.Words.{byte}
 use Rattle.mps.specs.Sums.{sum256, toStore}
@@ -16,10 +16,11 @@ use Rattle.mps.specs.declared.Sections.{Sections}
 use Rattle.mps.specs.declared.Edited.the-variants.{Done, Inner}
 use Rattle.laws.proofs.Parts.{drop-take}
 use Rattle.laws.proofs.Small.{Bytes}
-use Rattle.laws.proofs.Stores.{sets-take, sets-byte, take-sets, sets-set, sets-sets, sets-standing}
+use Rattle.laws.proofs.Stores.{sets-byte, take-sets, sets-set, sets-sets, sets-standing}
 use Rattle.sums.proofs.Laws.{stored-sets}
-use Rattle.numbers.proofs.Laws.{alike-le}
+use Rattle.numbers.proofs.Laws.{le-before}
 use Rattle.accepted.proofs.Sound.{Sound, sound}
+use Rattle.accepted.proofs.Sealed.{base-set}
 use Rattle.accepted.proofs.Stands.{Stands, stands}
 use Rattle.accepted.proofs.Replaced.{replaced-sound, replaced-sections, replaced-bytes, replaced-length}
 use Rattle.judge.proofs.Accepted.{placed}
@@ -65,9 +66,7 @@ module _ (t : List ℕ) (p : Sections) (e : Edit) (r : Ready t p e) where
   stored = sets t at (e .wanted)
 
   base-stays : baseLength (set stored checksumAt 0) ≡ n
-  base-stays =
-      let l : 6 ≤ at = omega (arith, inside .0) in
-      alike-le 6 t (set stored 7 0) (take-set-le 6 stored 7 0 (omega arith) ∙ sets-take t at (e .wanted) 6 l) 2 4 (omega arith)
+  base-stays = base-set stored 0 ∙ le-before t at (e .wanted) 2 4 (omega (arith, inside .0))
 
   base-stored : baseBytes (set stored checksumAt 0) ≡ set (sets (take n t) at (e .wanted)) checksumAt 0
   base-stored =
@@ -101,7 +100,7 @@ module _ (t : List ℕ) (p : Sections) (e : Edit) (r : Ready t p e) where
     pub left-long : headerSize ≤ length u
     left-long = rw (put-in, replaced-length t e s (r .shaped)) (s .long)
 
-    -- It is judged again.
+    -- What the second judging may use.
     pub amended : Bytes t → Bytes (e .wanted) → {id : ℕ} → id ≡ byte (e .stated) 1 → Amended u p o id
     amended b w q =
         let again = replaced-sound t e s (r .shaped) in
@@ -113,7 +112,7 @@ module _ (t : List ℕ) (p : Sections) (e : Edit) (r : Ready t p e) where
           shaped = r .shaped;
           is = put-in;
           here = a;
-          before = q ∙ ap idOf (r .seen);
+          gone = q ∙ ap idOf (r .seen);
           placed =
               rw (put-in, r .table .places, ← replaced-sections t e s (r .shaped))
               (placed (editedTable t e) small (again .low) (again .extended-inside) (again .walked) (again .extended-walked));

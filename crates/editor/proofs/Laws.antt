@@ -18,7 +18,7 @@ use Rattle.mps.specs.declared.Edited.{Edited}
 use Rattle.mps.specs.declared.Edited.the-variants.{Refused as Edited·Refused}
 use Rattle.laws.proofs.Refusals.{number, first-some, first-none, refusal-append, refusal-pass, refusal-below}
 use Rattle.laws.proofs.Small.{Bytes}
-use Rattle.judge.proofs.Laws.{accepted-number, accepted-sections, accepted-places}
+use Rattle.judge.proofs.Laws.{behind-table, accepted-number, accepted-sections, accepted-places}
 use Rattle.editor.specs.Tested.{Accepted, Ready, testRules, exchangedOf, exchanged, exchangeLeft}
 use Rattle.accepted.proofs.Shaped.{Shaped, shape-passes, passes-shape, unchanged-seen, seen-unchanged}
 
@@ -49,14 +49,9 @@ examined-table t b e q =
 
 -- ---- The edit
 
--- No row of the table's gives 0.
-table-given : (t : List ℕ) → among 0 (each number (tableRules t)) ≡ false
-unfolding tableRules among each
-table-given t = refl
-
 tests-number : (t : List ℕ) (e : Edit) → refusal (testRules t e) ≡ first (tableRefusal t) (refusal (entryRules t e))
-unfolding testRules tableRefusal
-tests-number t e = refusal-append (tableRules t) (entryRules t e) (table-given t)
+unfolding testRules
+tests-number t e = behind-table t (entryRules t e)
 
 -- No row gives 0, and none of the tests gives 23.
 tests-given :

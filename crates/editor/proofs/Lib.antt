@@ -1,10 +1,9 @@
 pub mod Exchanges
 pub mod Tests
 pub mod Laws
-mod Lists
 mod Losses
-mod ByType
+pub mod ByType
 mod Offsets
-mod Calls
+mod OneRoll
 mod Ways
 mod Numbers

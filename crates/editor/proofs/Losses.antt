@@ -11,10 +11,9 @@ use Rattle.mps.specs.Layout.{Entry, ofType, everyone, interruptTypeMost, reserv
 use Rattle.mps.specs.Layout.{mappingType, modifierType, extendedBus, parentBus, spaceKindMost, spaceKind, spaceEnd, spaceBase, spaceLength, rangeListMost, rangeList}
 use Rattle.mps.specs.Rules.{idsOf, isListed, links, circle, wrongInterrupt, wrongMapping, wrongHierarchy, wrongModifier, wrongSpaces}
 use Rattle.laws.proofs.Tests.{whether, or-parts}
-use Rattle.laws.proofs.Lists.{any-and}
+use Rattle.laws.proofs.Lists.{any-and, any-instead}
 use Rattle.laws.proofs.Small.{any-or}
 use Rattle.editor.specs.Amended.{has}
-use Rattle.editor.proofs.Lists.{any-instead}
 
 -- ---- One name
 
@@ -89,7 +88,6 @@ module _ (es fs : List Entry) (old : ℕ) (bus : Bool) (b : Loses (isListed es) 
       let parts = or-parts (not on) list w in
       rw (parts .1, b (extendedBus e) (not-false on (parts .0))) (or-false (bus && has 2 old e))
 
-  -- Which of them speak of the one that is gone.
   factor : (x m l p o : Bool) → (x && m || (x && l || x && p) || x && o || false || false) ≡ (x && (m || l || p || o))
   factor true m l p o = factored m l p o
     where
@@ -101,6 +99,7 @@ module _ (es fs : List Entry) (old : ℕ) (bus : Bool) (b : Loses (isListed es) 
       factored false false false false = refl
   factor false m l p o = refl
 
+  -- Which of them speak of the one that is gone.
   pub spaces-lose :
       (xs : List Entry) → wrongSpaces es xs ≡ false
       → wrongSpaces fs xs

@@ -1,42 +1,25 @@
 -- The number of an amended table, by the type that the code has read. Assumes nothing.
 use Prim.Native.Nat.{ℕ, zero, suc, _+_, _%_, _≤_, _<_}
 use mathlib.Core.Path.{_≡_, refl, ap, sym, _∙_}
-use mathlib.Core.Bool.{Bool, true, false, cond}
-use mathlib.Core.List.{List, [], _∷_}
+use mathlib.Core.List.{List, []}
 use native.Mathlib.Omega.{arith}
 use native.Mathlib.Nat.{add-zero}
-use lib.ListN.{length, getD, drop}
+use lib.ListN.{length, drop}
 use lib.Seq.{getD-set-same, take-set-le, getD-drop}
-use lib.Dec.{ltb}
-use borrow.Author.Tests.{ne-eqb, ltb-false}
+use borrow.Author.Tests.{ne-eqb}
 use Rattle.mps.specs.Words.{byte, part}
-use Rattle.mps.specs.Refusals.{Rule, refusal, typeNumber, cutNumber, orderNumber}
+use Rattle.mps.specs.Refusals.{Rule, refusal}
 use Rattle.mps.specs.Layout.{Entry, type, idOf, processorType, busType, ioApicType, ioInterruptType, localInterruptType, lastBaseType, localApic, localApicStep, baseEntries, baseEntryLength}
-use Rattle.mps.specs.Table.{entryFault, walkFrom}
 use Rattle.mps.specs.Judge.{tableRefusal}
 use Rattle.mps.specs.Edits.{Edit, standing, before, offsetOf, editedTable}
 use Rattle.mps.specs.declared.Sections.{Sections}
-use Rattle.laws.proofs.Refusals.{first-none}
+use Rattle.accepted.proofs.Pieces.{walked-type}
 use Rattle.accepted.proofs.Sound.{Sound, sound}
 use Rattle.accepted.proofs.Shaped.{Shaped}
 use Rattle.accepted.proofs.Stands.{Stands, stands}
 use Rattle.accepted.proofs.Replaced.{replaced-sound, replaced-entries, replaced-count}
 use Rattle.editor.specs.Amended.{processorRules, busRules, ioApicRules, ioInterruptRules, localInterruptRules, Amended}
 use Rattle.editor.proofs.ByType.{apic-aligned, by-processor, by-bus, by-io-apic, by-io-interrupt, by-local-interrupt}
-
--- No entry that was walked over has a type over 4.
-walked-type : (last : ℕ) (es : List Entry) → walkFrom last es ≡ 0 → (i : ℕ) → i < length es → type (getD es i []) ≤ lastBaseType
-unfolding walkFrom entryFault
-walked-type last [] w i h = absurd (omega arith)
-walked-type last (x ∷ es) w zero h =
-    let fault = first-none (entryFault last x) (walkFrom (type x) es) w .0 in
-    known (ltb lastBaseType (type x)) fault refl
-  where
-    known : (b : Bool) → cond b typeNumber (cond (ltb (length x) (baseEntryLength x)) cutNumber (cond (ltb (type x) last) orderNumber 0)) ≡ 0
-        → ltb lastBaseType (type x) ≡ b → type x ≤ lastBaseType
-    known true z q = absurd (omega (arith, z))
-    known false z q = ltb-false lastBaseType (type x) q
-walked-type last (x ∷ es) w (suc i) h = walked-type (type x) es (first-none (entryFault last x) (walkFrom (type x) es) w .1) i (omega arith)
 
 last-type : (k : ℕ) → k ≤ lastBaseType → (k ≡ processorType → ⊥) → (k ≡ busType → ⊥) → (k ≡ ioApicType → ⊥) → (k ≡ ioInterruptType → ⊥)
     → k ≡ localInterruptType
@@ -84,7 +67,7 @@ module _ (t : List ℕ) (e : Edit) (a : tableRefusal t ≡ 0) (h : Shaped t e) w
   here-inside : at < length u
   here-inside = let inside = there .inside in let some = there .some in rw (← same-place) (omega (arith, inside, some, again .inside))
 
-  -- An interrupt has eight bytes.
+  -- An entry that is no processor has eight bytes.
   module _ (o : type (e .wanted) ≡ processorType → ⊥) where
     eight : length (standing u (e .place)) ≡ 8
     unfolding baseEntryLength
@@ -117,9 +100,9 @@ module _ {u : List ℕ} {p : Sections} {at id : ℕ} (m : Amended u p at id) whe
   pub amended-aligned : localApic u % localApicStep ≡ 0
   amended-aligned = ap (λ (v : List ℕ). localApic v % localApicStep) (m .is) ∙ apic-aligned (m .was) (m .edit) (m .accepted) (m .shaped)
 
-  -- The rows of a type are of the edited table and of the ID before.
+  -- Of the table and ID that the code has, the rows are those of the edited table and the ID before.
   same-rows : (f : List ℕ → ℕ → List Rule) → refusal (f u id) ≡ refusal (f (editedTable (m .was) (m .edit)) (idOf (standing (m .was) (m .edit .place))))
-  same-rows f = ap (λ (v : List ℕ). refusal (f v id)) (m .is) ∙ ap (λ (i : ℕ). refusal (f (editedTable (m .was) (m .edit)) i)) (m .before)
+  same-rows f = ap (λ (v : List ℕ). refusal (f v id)) (m .is) ∙ ap (λ (i : ℕ). refusal (f (editedTable (m .was) (m .edit)) i)) (m .gone)
 
   number : {n : ℕ} → tableRefusal (editedTable (m .was) (m .edit)) ≡ n → n ≡ tableRefusal u
   number q = sym (ap tableRefusal (m .is) ∙ q)
@@ -138,20 +121,20 @@ module _ {u : List ℕ} {p : Sections} {at id : ℕ} (m : Amended u p at id) whe
     of-io-apic q w = w ∙ same-rows ioApicRules ∙ number (by-io-apic (m .was) (m .edit) (m .accepted) (m .shaped) (type-is q))
 
     module _ (o : k ≡ processorType → ⊥) where
-      none : type (m .edit .wanted) ≡ processorType → ⊥
-      none q = o (f ∙ kind ∙ q)
+      no-processor : type (m .edit .wanted) ≡ processorType → ⊥
+      no-processor q = o (f ∙ kind ∙ q)
 
       pub interrupt-inside : at + 8 ≤ length u
       interrupt-inside =
           let long : length u ≡ length (editedTable (m .was) (m .edit)) = ap length (m .is) in
-          omega (arith, long, m .here, eight-inside (m .was) (m .edit) (m .accepted) (m .shaped) none)
+          omega (arith, long, m .here, eight-inside (m .was) (m .edit) (m .accepted) (m .shaped) no-processor)
 
       same-entry : (g : List ℕ → Entry → List Rule) → refusal (g u (part at (at + 8) u)) ≡ refusal (g (editedTable (m .was) (m .edit)) (m .edit .wanted))
       same-entry g =
           let v = editedTable (m .was) (m .edit) in
           ap (λ (x : List ℕ). refusal (g x (part at (at + 8) x))) (m .is)
           ∙ ap (λ (i : ℕ). refusal (g v (part i (i + 8) v))) (m .here)
-          ∙ ap (λ (x : Entry). refusal (g v x)) (wanted-is (m .was) (m .edit) (m .accepted) (m .shaped) none)
+          ∙ ap (λ (x : Entry). refusal (g v x)) (wanted-is (m .was) (m .edit) (m .accepted) (m .shaped) no-processor)
 
       pub of-io-interrupt : k ≡ ioInterruptType → {r : ℕ} → r ≡ refusal (ioInterruptRules u (part at (at + 8) u)) → r ≡ tableRefusal u
       of-io-interrupt q w = w ∙ same-entry ioInterruptRules ∙ number (by-io-interrupt (m .was) (m .edit) (m .accepted) (m .shaped) (type-is q))

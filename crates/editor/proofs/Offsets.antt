@@ -10,7 +10,7 @@ use lib.Dec.{eqb}
 use borrow.Author.Tests.{eqb-true}
 use Rattle.mps.specs.Words.{part, every, each, keep, cut}
 use Rattle.mps.specs.Sums.{total}
-use Rattle.mps.specs.Layout.{Entry, headerSize, entryCount, baseEntries}
+use Rattle.mps.specs.Layout.{Entry, headerSize, processorSize, entrySize, partMost, entryCount, baseEntries}
 use Rattle.mps.specs.Sections.{rows}
 use Rattle.mps.specs.Edits.{before, offsetOf}
 use Rattle.mps.specs.declared.Sections.{Sections}
@@ -68,15 +68,15 @@ before-behind (x ∷ xs) ys k =
 
 module _ (t : List ℕ) (p : Sections) (h : Placed t p) where
   abbrev cpus : List Entry
-  cpus = rows 20 (part headerSize (p .buses) t)
+  cpus = rows processorSize (part headerSize (p .buses) t)
 
   behind : List Entry
   behind =
-      rows 8 (part (p .buses) (p .ioapics) t)
-      ++ (rows 8 (part (p .ioapics) (p .interrupts) t)
-      ++ (rows 8 (part (p .interrupts) (p .locals) t) ++ rows 8 (part (p .locals) (p .mappings) t)))
+      rows entrySize (part (p .buses) (p .ioapics) t)
+      ++ (rows entrySize (part (p .ioapics) (p .interrupts) t)
+      ++ (rows entrySize (part (p .interrupts) (p .locals) t) ++ rows entrySize (part (p .locals) (p .mappings) t)))
 
-  behind-even : Even 8 behind
+  behind-even : Even entrySize behind
   unfolding behind
   behind-even =
       even-more 8 _ _ (rows-even 8 _) (even-more 8 _ _ (rows-even 8 _) (even-more 8 _ _ (rows-even 8 _) (rows-even 8 _)))
@@ -85,30 +85,30 @@ module _ (t : List ℕ) (p : Sections) (h : Placed t p) where
   unfolding behind
   all = h .base-order
 
-  how-many : length cpus ≡ (p .buses - headerSize) / 20
+  how-many : length cpus ≡ (p .buses - headerSize) / processorSize
   how-many =
       rows-count-20 (part headerSize (p .buses) t)
       ∙ rw (length-part headerSize (p .buses) t (omega (arith, h .to-ioapics, h .to-interrupts, h .to-locals, h .to-mappings, h .to-links, h .to-modifiers, h .to-others, h .to-end, h .inside)))
 
-  module _ {n : ℕ} (e : n ≡ (p .buses - headerSize) / 20) (place : ℕ) where
+  module _ {n : ℕ} (e : n ≡ (p .buses - headerSize) / processorSize) (place : ℕ) where
     count : length cpus ≡ n
     count = how-many ∙ sym e
 
-    pub of-processor : place < n → headerSize + 20 * place ≡ offsetOf t place
+    pub of-processor : place < n → headerSize + processorSize * place ≡ offsetOf t place
     unfolding offsetOf
     of-processor l =
-        rw (all, before-first cpus behind place (omega (arith, count, l)), even-before 20 cpus (rows-even 20 _) place (omega (arith, count, l)))
+        rw (all, before-first cpus behind place (omega (arith, count, l)), even-before processorSize cpus (rows-even processorSize _) place (omega (arith, count, l)))
         (omega arith)
 
-    pub of-other : n ≤ place → place < length (baseEntries t) → headerSize + 20 * n + 8 * (place - n) ≡ offsetOf t place
+    pub of-other : n ≤ place → place < length (baseEntries t) → headerSize + processorSize * n + entrySize * (place - n) ≡ offsetOf t place
     unfolding offsetOf
     of-other l b =
         let k = place - n in
         let sum : length cpus + k ≡ place = omega (arith, count, l) in
         let within : k ≤ length behind = omega (arith, rw all at b, length-append cpus behind, count) in
-        let first = even-before 20 cpus (rows-even 20 _) (length cpus) (omega arith) in
-        let second = even-before 8 behind behind-even k within in
-        let whole : before place (cpus ++ behind) ≡ length cpus * 20 + k * 8 = rw sum at (before-behind cpus behind k) ∙ rw (first, second) in
+        let first = even-before processorSize cpus (rows-even processorSize _) (length cpus) (omega arith) in
+        let second = even-before entrySize behind behind-even k within in
+        let whole : before place (cpus ++ behind) ≡ length cpus * processorSize + k * entrySize = rw sum at (before-behind cpus behind k) ∙ rw (first, second) in
         rw (all, whole, count) (omega arith)
 
 -- ---- In an accepted table
@@ -117,9 +117,9 @@ module _ (t : List ℕ) (p : Sections) (a : Accepted t p) {place : ℕ} (h : pla
   pub counted : place < length (baseEntries t)
   counted = omega (arith, sound t (a .number) .counted, h)
 
-module _ (t : List ℕ) (p : Sections) (a : Accepted t p) {n : ℕ} (e : n ≡ (p .buses - headerSize) / 20) (place : ℕ) where
-  -- No place is behind the base, which has 4,096 bytes at most.
-  pub other-inside : n ≤ place → place < entryCount t → headerSize + 20 * n + 8 * (place - n) ≤ 4096
+module _ (t : List ℕ) (p : Sections) (a : Accepted t p) {n : ℕ} (e : n ≡ (p .buses - headerSize) / processorSize) (place : ℕ) where
+  -- No entry begins behind the base, which has 4,096 bytes at most.
+  pub other-inside : n ≤ place → place < entryCount t → headerSize + processorSize * n + entrySize * (place - n) ≤ partMost
   other-inside l h =
       let s = sound t (a .number) in
       omega (arith, of-other t p (a .placed) e place l (counted t p a h), stands t place s h .inside, s .most)

@@ -1,7 +1,7 @@
 -- The ways out of the second judging: what each function has found, and the number that follows. Assumes nothing.
 use Prim.Native.Nat.{ℕ, _+_, _-_, _%_, _≤_, _<_}
 use mathlib.Core.Path.{_≡_, refl, sym, _∙_}
-use mathlib.Core.Bool.{Bool, true, false, cond, not, _||_, _&&_, and-true, or-false}
+use mathlib.Core.Bool.{Bool, true, false, not, _||_, _&&_, or-false}
 use mathlib.Core.List.{List, [], _∷_}
 use native.Mathlib.Omega.{arith}
 use lib.ListN.{length, take, drop, replicate, length-replicate}
@@ -11,39 +11,32 @@ use borrow.Author.Tests.{eq-eqb}
 use Rattle.mps.specs.Words.{part, bit, any, among, each}
 use Rattle.mps.specs.Refusals.{refusal}
 use Rattle.mps.specs.Layout.{Entry, headerSize, processorType, ioApicType, localApic, localApicStep, everyone, idOf, baseEntries}
-use Rattle.mps.specs.Rules.{idsOf, isListed, enabledOf, enabledIds, links, wrongProcessors, wrongBuses, wrongIoApics, wrongInterrupt, wrongInput}
+use Rattle.mps.specs.Rules.{ioSide, localSide, idsOf, isListed, links, wrongProcessors, wrongBuses, wrongIoApics, wrongInterrupt, wrongInput}
 use Rattle.mps.specs.Sections.{rows}
 use Rattle.mps.specs.declared.Sections.{Sections}
-use Rattle.laws.proofs.Refusals.{refusal-stop}
-use Rattle.laws.proofs.Small.{Bytes, bytes-part, small-rows}
+use Rattle.laws.proofs.Refusals.{refusal-stop, refusal-go, refusal-end}
+use Rattle.laws.proofs.Small.{Bytes, bytes-part}
 use Rattle.laws.proofs.Parts.{length-part}
 use Rattle.laws.proofs.Rows.{rows-next, rows-done}
-use Rattle.roll.specs.Roll.{marked, withMarks}
+use Rattle.roll.specs.Roll.{marked}
 use Rattle.roll.specs.Calls.{called}
-use Rattle.roll.proofs.Laws.{marked-put, marked-none, length-called}
+use Rattle.roll.proofs.Laws.{marked-none}
 use Rattle.apics.specs.Apics.{processorCall, ioApicCall, wrongProcessorsIn}
-use Rattle.apics.proofs.Laws.{ios-wrong, ios-listed}
+use Rattle.apics.proofs.Laws.{ios-listed}
 use Rattle.buses.specs.Buses.{busCall}
-use Rattle.buses.proofs.Laws.{buses-wrong, buses-listed}
+use Rattle.buses.proofs.Laws.{buses-listed}
 use Rattle.interrupts.specs.Interrupts.{wrongInterruptIn}
 use Rattle.interrupts.proofs.Laws.{wrong-named-io, wrong-named-local}
 use Rattle.judge.specs.Placed.{Placed}
-use Rattle.judge.proofs.Rules.{starts, rule-14, next-14}
-use Rattle.editor.specs.Amended.{has, named, endsAtLost, comesFrom, speaksOf, processorRules, busRules, ioApicRules, ioInterruptRules, localInterruptRules, callOf}
-use Rattle.editor.proofs.Calls.{call-bus, call-target}
+use Rattle.judge.proofs.Rules.{started, starts, rule-14, next-14, rule-15, rule-16}
+use Rattle.editor.specs.Amended.{has, endsAt, endsAtLost, comesFrom, speaksOf, processorRules, busRules, ioApicRules, ioInterruptRules, localInterruptRules, rollFor}
+use Rattle.editor.proofs.OneRoll.{call-bus, call-target}
 
--- The rolls that are begun with: nothing on it, and 255 taken.
 abbrev none : List ℕ
 none = replicate 256 0
 
-abbrev started : List ℕ
-started = withMarks 18 none everyone
-
--- 255 is named always.
-with-everyone :
-    (k : ℕ) (roll : List ℕ) → length roll ≡ 256 → bit k 5 ≡ true → (y : ℕ) → y < 256
-    → marked k (withMarks 5 roll everyone) y ≡ (eqb y everyone || marked k roll y)
-with-everyone k roll size b y h = marked-put k 5 roll everyone y (rw size h) ∙ rw (b, and-true (eqb y everyone))
+size : length none ≡ 256
+size = length-replicate {A = ℕ} 256 0
 
 module _ {u : List ℕ} {p : Sections} (h : Placed u p) where
   -- ---- Who speaks of a bus
@@ -92,16 +85,12 @@ module _ {u : List ℕ} {p : Sections} (h : Placed u p) where
   buses = rows 8 (part (p .buses) (p .ioapics) u)
 
   bus-wrong : wrongBuses (baseEntries u) ≡ called busCall none buses .wrong
-  unfolding wrongBuses idsOf
-  bus-wrong =
-      sym
-      (buses-wrong none (length-replicate {A = ℕ} 256 0) buses (small-rows 8 _ (bytes-part (p .buses) (p .ioapics) u (h .bytes))) (λ y b. marked-none 3 256 y)
-      ∙ rw (← h .buses))
+  bus-wrong = rule-15 u p h none size (λ y b. marked-none 3 256 y)
 
   bus-listed : called busCall none buses .wrong ≡ false → (y : ℕ) → y < 256 → marked 3 (called busCall none buses .roll) y ≡ isListed (baseEntries u) y
   unfolding isListed idsOf
   bus-listed fine y b =
-      buses-listed none (length-replicate {A = ℕ} 256 0) buses fine y b (λ z c. marked-none 3 256 z) ∙ rw (← h .buses)
+      buses-listed none size buses fine y b (λ z c. marked-none 3 256 z) ∙ rw (← h .buses)
 
   module _ (old : ℕ) {w : Bool} (ew : w ≡ called busCall none buses .wrong) where
     pub by-15 : w ≡ true → 15 ≡ refusal (busRules u old)
@@ -144,15 +133,21 @@ module _ {u : List ℕ} {p : Sections} (h : Placed u p) where
     unfolding processorRules
     by-14 y = sym (refusal-stop 14 _ (cpu-wrong ∙ y))
 
-    pub cpu-left :
-        w ≡ false → old < 256 → {next : List ℕ} → next ≡ called processorCall roll cpus .roll
-        → {r : ℕ} → r ≡ cond (not (marked 0 (withMarks 5 next everyone) old) && any (has 6 old) (rows 8 (part (p .locals) (p .mappings) u))) 17 0
-        → r ≡ refusal (processorRules u old)
-    unfolding processorRules refusal endsAtLost named bit
-    cpu-left n small en er =
-        let rolled = next-14 u p h (rw s at (sym ew ∙ n)) in
-        let shown = with-everyone 0 (called processorCall started cpus .roll) (rolled .size) refl old small in
-        er ∙ rw (cpu-wrong, n, en, s, shown, rolled .cpus-shown old small, ← h .locals)
+    module _ (n : w ≡ false) (small : old < 256) {next : List ℕ} (en : next ≡ called processorCall roll cpus .roll)
+        {l : Bool} (el : l ≡ (not (eqb old everyone || marked 0 next old) && any (endsAt old) (rows 8 (part (p .locals) (p .mappings) u)))) where
+      local-lost : endsAtLost localSide u old ≡ l
+      unfolding endsAtLost
+      local-lost =
+          let rolled = next-14 u p h (rw s at (sym ew ∙ n)) in
+          sym (el ∙ rw (en, s, rolled .cpus-shown old small, ← h .locals))
+
+      pub local-17 : l ≡ true → 17 ≡ refusal (processorRules u old)
+      unfolding processorRules refusal
+      local-17 y = rw (cpu-wrong, n, local-lost, y)
+
+      pub cpu-past : l ≡ false → 0 ≡ refusal (processorRules u old)
+      unfolding processorRules refusal
+      cpu-past y = rw (cpu-wrong, n, local-lost, y)
 
   -- ---- An I/O APIC
 
@@ -161,25 +156,29 @@ module _ {u : List ℕ} {p : Sections} (h : Placed u p) where
 
   module _ (old : ℕ) {roll : List ℕ} (s : roll ≡ started) {w : Bool} (ew : w ≡ called ioApicCall roll apics .wrong) where
     apic-wrong : wrongIoApics (baseEntries u) ≡ w
-    unfolding wrongIoApics enabledIds enabledOf
-    apic-wrong =
-        let few = small-rows 8 _ (bytes-part (p .ioapics) (p .interrupts) u (h .bytes)) in
-        rw (h .ioapics, ← ios-wrong started (starts .size) apics few (starts .io-taken-shown), ← s) (sym ew)
+    apic-wrong = rule-16 u p h started (starts .size) (starts .io-taken-shown) ∙ rw (← s) (sym ew)
 
     pub by-16 : w ≡ true → 16 ≡ refusal (ioApicRules u old)
     unfolding ioApicRules
     by-16 y = sym (refusal-stop 16 _ (apic-wrong ∙ y))
 
-    pub apic-left :
-        w ≡ false → old < 256 → {next : List ℕ} → next ≡ called ioApicCall roll apics .roll
-        → {r : ℕ} → r ≡ cond (not (marked 2 (withMarks 5 next everyone) old) && any (has 6 old) (rows 8 (part (p .interrupts) (p .locals) u))) 17 0
-        → r ≡ refusal (ioApicRules u old)
-    unfolding ioApicRules refusal endsAtLost named idsOf bit
-    apic-left n small en er =
-        let size = length-called ioApicCall started apics ∙ starts .size in
-        let shown = with-everyone 2 (called ioApicCall started apics .roll) size refl old small in
-        let listed = ios-listed started (starts .size) apics (rw s at (sym ew ∙ n)) old small in
-        er ∙ rw (apic-wrong, n, en, s, shown, listed, starts .ioapics-shown old small, or-false (among old (each idOf apics)), ← h .ioapics, ← h .interrupts)
+    module _ (n : w ≡ false) (small : old < 256) {next : List ℕ} (en : next ≡ called ioApicCall roll apics .roll)
+        {l : Bool} (el : l ≡ (not (eqb old everyone || marked 2 next old) && any (endsAt old) (rows 8 (part (p .interrupts) (p .locals) u)))) where
+      io-lost : endsAtLost ioSide u old ≡ l
+      unfolding endsAtLost idsOf
+      io-lost =
+          let listed = ios-listed started (starts .size) apics (rw s at (sym ew ∙ n)) old small in
+          sym
+          (el
+          ∙ rw (en, s, listed, starts .ioapics-shown old small, or-false (among old (each idOf apics)), ← h .ioapics, ← h .interrupts))
+
+      pub io-17 : l ≡ true → 17 ≡ refusal (ioApicRules u old)
+      unfolding ioApicRules refusal
+      io-17 y = rw (apic-wrong, n, io-lost, y)
+
+      pub apic-past : l ≡ false → 0 ≡ refusal (ioApicRules u old)
+      unfolding ioApicRules refusal
+      apic-past y = rw (apic-wrong, n, io-lost, y)
 
   -- ---- An interrupt
 
@@ -201,39 +200,45 @@ module _ {u : List ℕ} {p : Sections} (h : Placed u p) where
         let whole : take 8 (drop 0 entry) ≡ entry = take-all 8 entry (omega (arith, entry-size)) in
         rw (first, rest, whole) (or-false (q entry))
 
-    io-wrong : any (wrongInterruptIn (callOf 4 buses apics entry none) 2 255) (rows 8 entry) ≡ wrongInterrupt (baseEntries u) ioApicType entry
+    io-wrong : any (wrongInterruptIn (rollFor 4 buses apics entry none) 2 255) (rows 8 entry) ≡ wrongInterrupt (baseEntries u) ioApicType entry
     unfolding idsOf bit
     io-wrong =
-        alone (wrongInterruptIn (callOf 4 buses apics entry none) 2 255)
-        ∙ wrong-named-io (baseEntries u) (callOf 4 buses apics entry none) ioApicType 2 entry
+        alone (wrongInterruptIn (rollFor 4 buses apics entry none) 2 255)
+        ∙ wrong-named-io (baseEntries u) (rollFor 4 buses apics entry none) ioApicType 2 entry
         (call-bus 2 4 buses apics entry (small 4) refl ∙ rw (← h .buses))
         (call-target 2 4 buses apics entry (small 6) refl refl refl ∙ rw (← h .ioapics))
         small
 
     local-wrong :
-        any (wrongInterruptIn (callOf 1 buses cpus entry none) 0 1) (rows 8 entry)
+        any (wrongInterruptIn (rollFor 1 buses cpus entry none) 0 1) (rows 8 entry)
         ≡ (wrongInterrupt (baseEntries u) processorType entry || wrongInput entry)
     unfolding idsOf bit
     local-wrong =
-        alone (wrongInterruptIn (callOf 1 buses cpus entry none) 0 1)
-        ∙ wrong-named-local (baseEntries u) (callOf 1 buses cpus entry none) processorType 0 entry
+        alone (wrongInterruptIn (rollFor 1 buses cpus entry none) 0 1)
+        ∙ wrong-named-local (baseEntries u) (rollFor 1 buses cpus entry none) processorType 0 entry
         (call-bus 0 1 buses cpus entry (small 4) refl ∙ rw (← h .buses))
         (call-target 0 1 buses cpus entry (small 6) refl refl refl ∙ rw (← h .processors))
 
-    module _ {roll : List ℕ} (er : roll ≡ callOf 4 buses apics entry none) {w : Bool} (ew : w ≡ any (wrongInterruptIn roll 2 255) (rows 8 entry)) where
-      pub io-17 : w ≡ true → 17 ≡ refusal (ioInterruptRules u entry)
-      unfolding ioInterruptRules refusal
-      io-17 y = rw (← io-wrong, ← er, ← ew, y)
+    module _ {roll : List ℕ} (er : roll ≡ rollFor 4 buses apics entry none) {w : Bool} (ew : w ≡ any (wrongInterruptIn roll 2 255) (rows 8 entry)) where
+      io-is : wrongInterrupt (baseEntries u) ioApicType entry ≡ w
+      io-is = rw (← io-wrong, ← er, ← ew)
 
-      pub io-past : w ≡ false → 0 ≡ refusal (ioInterruptRules u entry)
-      unfolding ioInterruptRules refusal
-      io-past y = rw (← io-wrong, ← er, ← ew, y)
+      pub io-wrong-17 : w ≡ true → 17 ≡ refusal (ioInterruptRules u entry)
+      unfolding ioInterruptRules
+      io-wrong-17 y = sym (refusal-stop 17 [] (io-is ∙ y))
 
-    module _ {roll : List ℕ} (er : roll ≡ callOf 1 buses cpus entry none) {w : Bool} (ew : w ≡ any (wrongInterruptIn roll 0 1) (rows 8 entry)) where
-      pub local-17 : w ≡ true → 17 ≡ refusal (localInterruptRules u entry)
-      unfolding localInterruptRules refusal
-      local-17 y = rw (← local-wrong, ← er, ← ew, y)
+      pub io-right : w ≡ false → 0 ≡ refusal (ioInterruptRules u entry)
+      unfolding ioInterruptRules
+      io-right y = sym (refusal-go 17 [] (io-is ∙ y) ∙ refusal-end)
 
-      pub local-past : w ≡ false → 0 ≡ refusal (localInterruptRules u entry)
-      unfolding localInterruptRules refusal
-      local-past y = rw (← local-wrong, ← er, ← ew, y)
+    module _ {roll : List ℕ} (er : roll ≡ rollFor 1 buses cpus entry none) {w : Bool} (ew : w ≡ any (wrongInterruptIn roll 0 1) (rows 8 entry)) where
+      local-is : (wrongInterrupt (baseEntries u) processorType entry || wrongInput entry) ≡ w
+      local-is = rw (← local-wrong, ← er, ← ew)
+
+      pub local-wrong-17 : w ≡ true → 17 ≡ refusal (localInterruptRules u entry)
+      unfolding localInterruptRules
+      local-wrong-17 y = sym (refusal-stop 17 [] (local-is ∙ y))
+
+      pub local-right : w ≡ false → 0 ≡ refusal (localInterruptRules u entry)
+      unfolding localInterruptRules
+      local-right y = sym (refusal-go 17 [] (local-is ∙ y) ∙ refusal-end)

@@ -1,45 +1,45 @@
--- An accepted table in which one entry has been exchanged, judged again: the rows that an exchange of its type can change, and
--- no others. That these decide as all of 5 to 18 do is proofs/ByType.antt.
-use Prim.Native.Nat.{ℕ}
+-- An accepted table in which one entry has been exchanged for one of its type and length, judged again: of the rows 5 to 18 those
+-- that read this type, and of 17 and 18 only what the exchange can have made wrong. proofs/ByType.antt has that these decide as all
+-- of 5 to 18 do.
+use Prim.Native.Nat.{ℕ, _+_}
 use mathlib.Core.Path.{_≡_}
 use mathlib.Core.Bool.{Bool, cond, not, _||_, _&&_}
 use mathlib.Core.List.{List, [], _∷_}
 use lib.Dec.{eqb}
-use Rattle.mps.specs.Words.{byte, among, any, keep}
+use Rattle.mps.specs.Words.{byte, any, keep}
 use Rattle.mps.specs.Refusals.{Rule, _when_}
 use Rattle.mps.specs.Layout.{Entry, ofType, idOf, everyone, sourceBus, destination, parentBus, baseEntries, extendedEntries}
 use Rattle.mps.specs.Layout.{processorType, ioApicType, ioInterruptType, localInterruptType, mappingType, modifierType}
-use Rattle.mps.specs.Rules.{Side, ioSide, localSide, idsOf, isListed, links, onBus, wrongProcessors, wrongBuses, wrongIoApics, wrongInterrupt, wrongInput}
+use Rattle.mps.specs.Rules.{Side, ioSide, localSide, isListed, links, onBus, wrongProcessors, wrongBuses, wrongIoApics, wrongInterrupt, wrongInput}
 use Rattle.mps.specs.Judge.{tableRefusal}
 use Rattle.mps.specs.Edits.{Edit, standing, offsetOf, editedTable}
 use Rattle.mps.specs.declared.Sections.{Sections}
 use Rattle.accepted.proofs.Shaped.{Shaped}
-use Rattle.roll.specs.Roll.{busBit, mark, withMarks}
+use Rattle.roll.specs.Roll.{processorBit, ioApicBit, busBit, mark, withMarks}
 use Rattle.judge.specs.Placed.{Placed}
+use Rattle.judge.specs.Rolled.{named}
 
 -- ---- What still names the ID that the entry had
 
--- Whether an entry has an ID in its byte k: as an interrupt's bus or destination, as an extended entry's bus or parent.
+-- Whether an entry has an ID in its byte k. The code has one search for all of these: an entry's own ID (1), an extended entry's bus
+-- (2), an interrupt's bus or a link's parent (4), a destination (6). The last three by name:
 abbrev pub has : ℕ → ℕ → Entry → Bool
 has k id e = eqb (byte e k) id
 
-abbrev comesFromBus : ℕ → Entry → Bool
+abbrev pub comesFromBus : ℕ → Entry → Bool
 comesFromBus bus e = eqb (sourceBus e) bus
 
-abbrev endsAt : ℕ → Entry → Bool
-endsAt id e = eqb (destination e) id
-
-abbrev isUnder : ℕ → Entry → Bool
+abbrev pub isUnder : ℕ → Entry → Bool
 isUnder bus e = eqb (parentBus e) bus
 
--- Whether a destination may still name an ID: 255, or that of an entry of the type.
-unfoldable pub named : List ℕ → ℕ → ℕ → Bool
-named u n id = eqb id everyone || among id (idsOf n (baseEntries u))
+abbrev pub endsAt : ℕ → Entry → Bool
+endsAt id e = eqb (destination e) id
 
--- An interrupt of a side that ends at an ID which is not named any more.
+-- An interrupt of a side that ends at an ID which it may not name any more: it is not 255, and no entry of the targets' type has it,
+-- enabled or not.
 unfoldable pub endsAtLost : Side → List ℕ → ℕ → Bool
 endsAtLost side u id =
-    not (named u (side .targets) id) && any (endsAt id) (keep (ofType (side .interrupts)) (baseEntries u))
+    not (named (side .targets) u id) && any (endsAt id) (keep (ofType (side .interrupts)) (baseEntries u))
 
 -- An interrupt of either side that comes from a bus, and an extended entry that speaks of it.
 unfoldable pub comesFrom : List ℕ → ℕ → Bool
@@ -82,13 +82,14 @@ localInterruptRules u e = 17 when (wrongInterrupt (baseEntries u) processorType 
 unfoldable pub enrolledIf : ℕ → List Entry → ℕ → List ℕ → List ℕ
 enrolledIf marks es id roll = cond (any (has 1 id) es) (withMarks marks roll id) roll
 
--- What an interrupt names: its bus among some, its destination among others, and 255, which names all.
-unfoldable pub callOf : ℕ → List Entry → List Entry → Entry → List ℕ → List ℕ
-callOf marks bs ts e roll = withMarks 5 (enrolledIf marks ts (destination e) (enrolledIf (mark busBit) bs (sourceBus e) roll)) everyone
+-- With what an interrupt names: its bus among some, its destination among others, and 255, which names all.
+unfoldable pub rollFor : ℕ → List Entry → List Entry → Entry → List ℕ → List ℕ
+rollFor marks bs ts e roll =
+    withMarks (mark processorBit + mark ioApicBit) (enrolledIf marks ts (destination e) (enrolledIf (mark busBit) bs (sourceBus e) roll)) everyone
 
 -- ---- What the code knows when it begins
 
--- u is an accepted table with one entry exchanged, at `at`; `id` was its ID. p has the places of both tables.
+-- u is an accepted table with one entry exchanged, at `at`; `id` is that of the entry that is gone, and p has the places of u.
 pub record Amended (u : List ℕ) (p : Sections) (at id : ℕ) : Type 0 where
   pub was : List ℕ
   pub edit : Edit
@@ -96,5 +97,5 @@ pub record Amended (u : List ℕ) (p : Sections) (at id : ℕ) : Type 0 where
   pub shaped : Shaped was edit
   pub is : u ≡ editedTable was edit
   pub here : at ≡ offsetOf was (edit .place)
-  pub before : id ≡ idOf (standing was (edit .place))
+  pub gone : id ≡ idOf (standing was (edit .place))
   pub placed : Placed u p

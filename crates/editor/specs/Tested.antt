@@ -1,4 +1,5 @@
--- An edit in two steps: the tests 5 to 22, which only read, and the exchange with its judgement, 23.
+-- An edit behind its table's own tests: 20 to 22, which only read, then the exchange with its judgement, 23; and what is known
+-- between them.
 use Prim.Native.Nat.{ℕ, zero, suc}
 use mathlib.Core.Path.{_≡_}
 use mathlib.Core.Bool.{cond}

@@ -1,24 +1,26 @@
 // An accepted table in which one entry has been exchanged for one of its type, judged again.
 //
-// Its header, its lengths, its sums, its walk and its count are as they were, so 5 to 13 are passed; and of 14 to 18 only what
-// reads the type of the entry can be otherwise (specs/Amended.antt has the rows, and proofs/ByType.antt that they suffice):
+// Its header is as it was but for the checksum, its base adds to 0 again, and its lengths, walk and count stay, so 5 to 13 are
+// passed; and of 14 to 18 only what reads the type of the entry can be otherwise (specs/Amended.antt has the rows, and
+// proofs/ByType.antt that they suffice):
 // - an interrupt is judged by itself;
-// - a processor, bus or I/O APIC with those of its type; and where its ID was the only one of that number and is gone, whether
-//   some entry names it still.
+// - a processor, bus or I/O APIC with those of its type; and where no entry of the type has the old ID any more, whether some
+//   entry still names it.
 use mps::Sections;
 use mps::layout;
 ghost use mathlib.Core.Path.{_≡_};
-ghost use mathlib.Core.Bool.{cond, not, _&&_};
+ghost use mathlib.Core.Bool.{not, _||_, _&&_};
+ghost use lib.Dec.{eqb};
 ghost use Prim.Native.Nat.{_+_, _%_, _≤_, _<_};
 ghost use lib.ListN.{length};
 ghost use Rattle.mps.specs.Words.{part, any};
 ghost use Rattle.mps.specs.Refusals.{refusal};
-ghost use Rattle.mps.specs.Layout.{entrySize, localApic, localApicStep};
+ghost use Rattle.mps.specs.Layout.{entrySize, everyone, localApic, localApicStep};
 ghost use Rattle.mps.specs.Sections.{rows};
 ghost use Rattle.mps.specs.Judge.{tableRefusal};
 ghost use Rattle.judge.specs.Placed.{Placed};
-ghost use Rattle.roll.specs.Roll.{marked, withMarks};
-ghost use Rattle.editor.specs.Amended.{has, enrolledIf, callOf, comesFrom, speaksOf, processorRules, busRules, ioApicRules, ioInterruptRules, localInterruptRules, Amended};
+ghost use Rattle.roll.specs.Roll.{marked};
+ghost use Rattle.editor.specs.Amended.{has, endsAt, enrolledIf, rollFor, comesFrom, speaksOf, processorRules, busRules, ioApicRules, ioInterruptRules, localInterruptRules, Amended};
 
 // The number that the table is refused with, 0 where it is accepted. The entry stands at `at`, and `old` was its ID.
 pub(super) fn number(t: &[u8], p: Sections, at: usize, old: u8) -> u8
@@ -56,7 +58,10 @@ fn processor(t: &[u8], p: Sections, old: u8) -> u8
     }
     let start = p.locals;
     let stop = p.mappings;
-    unnamed(&mut roll, roll::PROCESSOR, &t[start..stop], old)
+    if ends_at_lost(&roll, roll::PROCESSOR, &t[start..stop], old) {
+        return 17;
+    }
+    0
 }
 
 // 16, and 17 of I/O interrupts.
@@ -72,22 +77,20 @@ fn io_apic(t: &[u8], p: Sections, old: u8) -> u8
         return 16;
     }
     let stop = p.locals;
-    unnamed(&mut roll, roll::IO_APIC, &t[end..stop], old)
-}
-
-// 17 where an interrupt ends at an ID that is no longer on the roll. 255 is on it: it names all.
-fn unnamed(roll: &mut [u8; 256], k: u8, s: &[u8], old: u8) -> u8
-    ensures { λ r. ⌜ r ≡ cond (not (marked (k % 8) (withMarks 5 (now (roll .entry)) 255) old) && any (has 6 old) (rows entrySize (now (s .entry)))) 17 0 ⌝ }
-    ensures { λ _. ⌜ now (roll .exit) ≡ withMarks 5 (now (roll .entry)) 255 ⌝ }
-{
-    roll::put(roll, layout::EVERYONE, roll::APIC_MARKS);
-    if roll::has(roll, old, k) {
-        return 0;
-    }
-    if names(s, layout::ENTRY_SIZE, layout::DESTINATION, old) {
+    if ends_at_lost(&roll, roll::IO_APIC, &t[end..stop], old) {
         return 17;
     }
     0
+}
+
+// Whether an interrupt ends at an ID that is no longer on the roll. 255 names all, whoever has it.
+fn ends_at_lost(roll: &[u8; 256], k: u8, s: &[u8], old: u8) -> bool
+    ensures { λ r. ⌜ r ≡ (not (eqb old everyone || marked (k % 8) (now (roll .entry)) old) && any (endsAt old) (rows entrySize (now (s .entry)))) ⌝ }
+{
+    if (old == layout::EVERYONE) | roll::has(roll, old, k) {
+        return false;
+    }
+    any_has(s, layout::ENTRY_SIZE, layout::DESTINATION, old)
 }
 
 // 15, and 17 and 18 of the entries that speak of a bus.
@@ -122,11 +125,11 @@ fn comes_from(t: &[u8], p: Sections, bus: u8) -> bool
     let middle = p.locals;
     let end = p.mappings;
     let interrupts = &t[start..middle];
-    if names(interrupts, layout::ENTRY_SIZE, layout::SOURCE_BUS, bus) {
+    if any_has(interrupts, layout::ENTRY_SIZE, layout::SOURCE_BUS, bus) {
         return true;
     }
     let locals = &t[middle..end];
-    names(locals, layout::ENTRY_SIZE, layout::SOURCE_BUS, bus)
+    any_has(locals, layout::ENTRY_SIZE, layout::SOURCE_BUS, bus)
 }
 
 // Whether an extended entry speaks of a bus, as its own or as a parent.
@@ -139,18 +142,18 @@ fn speaks_of(t: &[u8], p: Sections, bus: u8) -> bool
     let third = p.modifiers;
     let end = p.others;
     let mappings = &t[first..second];
-    if names(mappings, layout::MAPPING_SIZE, layout::EXTENDED_BUS, bus) {
+    if any_has(mappings, layout::MAPPING_SIZE, layout::EXTENDED_BUS, bus) {
         return true;
     }
     let links = &t[second..third];
-    if names(links, layout::LINK_SIZE, layout::EXTENDED_BUS, bus) {
+    if any_has(links, layout::LINK_SIZE, layout::EXTENDED_BUS, bus) {
         return true;
     }
-    if names(links, layout::LINK_SIZE, layout::PARENT_BUS, bus) {
+    if any_has(links, layout::LINK_SIZE, layout::PARENT_BUS, bus) {
         return true;
     }
     let modifiers = &t[third..end];
-    names(modifiers, layout::LINK_SIZE, layout::EXTENDED_BUS, bus)
+    any_has(modifiers, layout::LINK_SIZE, layout::EXTENDED_BUS, bus)
 }
 
 // ---- Interrupts
@@ -165,7 +168,7 @@ fn io_interrupt(t: &[u8], p: Sections, at: usize) -> u8
     let end = p.interrupts;
     let e = &t[at..at + layout::ENTRY_SIZE];
     let mut roll: [u8; 256] = [0; 256];
-    call(
+    enroll_named(
         &mut roll,
         e,
         &t[buses..first],
@@ -187,7 +190,7 @@ fn local_interrupt(t: &[u8], p: Sections, at: usize) -> u8
     let end = p.ioapics;
     let e = &t[at..at + layout::ENTRY_SIZE];
     let mut roll: [u8; 256] = [0; 256];
-    call(
+    enroll_named(
         &mut roll,
         e,
         &t[buses..end],
@@ -201,18 +204,20 @@ fn local_interrupt(t: &[u8], p: Sections, at: usize) -> u8
     0
 }
 
-// Puts on the roll what an interrupt names: its bus where that is listed, its destination where an entry has it, and 255.
-fn call(roll: &mut [u8; 256], e: &[u8], buses: &[u8], targets: &[u8], size: usize, marks: u8)
+// The roll that an interrupt is judged by: its bus where that is listed, its destination where an entry has it, and 255.
+fn enroll_named(
+    roll: &mut [u8; 256],
+    e: &[u8],
+    buses: &[u8],
+    targets: &[u8],
+    size: usize,
+    marks: u8,
+)
     requires { ⌜ (length (now e) ≡ entrySize) × (1 < size) ⌝ }
-    ensures { λ _. ⌜ now (roll .exit) ≡ callOf marks (rows entrySize (now (buses .entry))) (rows size (now (targets .entry))) (now (e .entry)) (now (roll .entry)) ⌝ }
+    ensures { λ _. ⌜ now (roll .exit) ≡ rollFor marks (rows entrySize (now (buses .entry))) (rows size (now (targets .entry))) (now (e .entry)) (now (roll .entry)) ⌝ }
 {
-    enroll(
-        roll,
-        roll::BUS_MARK,
-        buses,
-        layout::ENTRY_SIZE,
-        e[layout::SOURCE_BUS],
-    );
+    let bus = e[layout::SOURCE_BUS];
+    enroll(roll, roll::BUS_MARK, buses, layout::ENTRY_SIZE, bus);
     enroll(roll, marks, targets, size, e[layout::DESTINATION]);
     roll::put(roll, layout::EVERYONE, roll::APIC_MARKS);
 }
@@ -224,13 +229,13 @@ fn enroll(roll: &mut [u8; 256], marks: u8, s: &[u8], size: usize, id: u8)
     requires { ⌜ 1 < size ⌝ }
     ensures { λ _. ⌜ now (roll .exit) ≡ enrolledIf marks (rows size (now (s .entry))) id (now (roll .entry)) ⌝ }
 {
-    if names(s, size, layout::ENTRY_ID, id) {
+    if any_has(s, size, layout::ENTRY_ID, id) {
         roll::put(roll, id, marks);
     }
 }
 
 // Whether some entry has an ID in its byte k.
-fn names(s: &[u8], size: usize, k: usize, id: u8) -> bool
+fn any_has(s: &[u8], size: usize, k: usize, id: u8) -> bool
     requires { ⌜ k < size ⌝ }
     ensures { λ r. ⌜ r ≡ any (has k id) (rows size (now (s .entry))) ⌝ }
 {

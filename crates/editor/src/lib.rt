@@ -4,8 +4,8 @@
 // checksum. The definitions stand in mps's specs/Edits.antt. What follows of single edits and of runs is proved in promises.
 //
 // The wanted entry is put in, the table is judged again, and the stated bytes and the old checksum are put back where it is
-// refused: no second buffer is needed, and nothing is seen of it. The base is added up once, by the judge, before: byte 7 comes
-// from the old one and both entries, and what the exchange cannot change is not judged again (module again).
+// refused: no second buffer is needed, and nothing is seen of it. The base is added up once, when the table is first judged: byte 7
+// then comes from the old one and both entries, and what the exchange cannot change is not judged again (module again).
 mod again; // the number of a table with an entry exchanged
 
 use mps::Edited;
@@ -100,8 +100,8 @@ fn exchange(t: &mut [u8], p: Sections, place: usize, stated: &[u8], wanted: &[u8
     Edited::Inner(number)
 }
 
-// The base checksum with the wanted entry in the stated one's stead, from the one before: what the first gives to the sum is
-// taken from it, and what the second gave is given back.
+// The base checksum after the exchange, from the one before. With its checksum the base adds to 0: so what the stated entry gave is
+// added, and what the wanted one gives is taken away.
 fn checksum(old: u8, stated: &[u8], wanted: &[u8]) -> u8
     ensures { λ r. ⌜ r ≡ (old + sum256 (now (stated .entry)) + toStore (sum256 (now (wanted .entry)))) % 256 ⌝ }
 {

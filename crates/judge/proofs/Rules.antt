@@ -32,7 +32,7 @@ use Rattle.judge.specs.Rolled.{nobody, listed, reserved, Rolled, Named}
 
 -- ---- The roll that the judge begins with: 255 is taken of both kinds, and nothing else is in it
 
-abbrev started : List ℕ
+abbrev pub started : List ℕ
 started = withMarks 18 (replicate 256 0) everyone
 
 begins : (j y : ℕ) → y < 256 → marked j started y ≡ (eqb y everyone && bit j 18)
@@ -108,15 +108,22 @@ module _ (t : List ℕ) (p : Sections) (h : Placed t p) where
           buses-shown = λ y b. cpus-keep started (starts .size) es fine y b 3 refl refl ∙ starts .buses-shown y b;
         }
 
-  -- ---- 15
+  -- ---- 15 and 16: of the roll each asks one bit
+
+  module _ (roll : List ℕ) (size : length roll ≡ 256) where
+    pub rule-15 : Shows 3 roll nobody → wrongBuses (baseEntries t) ≡ called busCall roll (rows 8 busBytes) .wrong
+    unfolding wrongBuses idsOf
+    rule-15 free =
+        let small = small-rows 8 busBytes (bytes-part (p .buses) (p .ioapics) t (h .bytes)) in
+        sym (buses-wrong roll size (rows 8 busBytes) small free ∙ rw (← h .buses))
+
+    pub rule-16 : Shows 4 roll reserved → wrongIoApics (baseEntries t) ≡ called ioApicCall roll (rows 8 apicBytes) .wrong
+    unfolding wrongIoApics enabledIds enabledOf
+    rule-16 taken =
+        let small = small-rows 8 apicBytes (bytes-part (p .ioapics) (p .interrupts) t (h .bytes)) in
+        sym (ios-wrong roll size (rows 8 apicBytes) small taken ∙ rw (← h .ioapics))
 
   module _ {roll : List ℕ} (r : Rolled roll (listed processorType t) nobody) where
-    pub rule-15 : wrongBuses (baseEntries t) ≡ called busCall roll (rows 8 busBytes) .wrong
-    unfolding wrongBuses idsOf
-    rule-15 =
-        let small = small-rows 8 busBytes (bytes-part (p .buses) (p .ioapics) t (h .bytes)) in
-        sym (buses-wrong roll (r .size) (rows 8 busBytes) small (r .buses-shown) ∙ rw (← h .buses))
-
     pub next-15 :
         called busCall roll (rows 8 busBytes) .wrong ≡ false
         → Rolled (called busCall roll (rows 8 busBytes) .roll) (listed processorType t) (listed busType t)
@@ -132,12 +139,6 @@ module _ (t : List ℕ) (p : Sections) (h : Placed t p) where
   -- ---- 16
 
   module _ {roll : List ℕ} (r : Rolled roll (listed processorType t) (listed busType t)) where
-    pub rule-16 : wrongIoApics (baseEntries t) ≡ called ioApicCall roll (rows 8 apicBytes) .wrong
-    unfolding wrongIoApics enabledIds enabledOf
-    rule-16 =
-        let small = small-rows 8 apicBytes (bytes-part (p .ioapics) (p .interrupts) t (h .bytes)) in
-        sym (ios-wrong roll (r .size) (rows 8 apicBytes) small (r .io-taken-shown) ∙ rw (← h .ioapics))
-
     module _ (fine : called ioApicCall roll (rows 8 apicBytes) .wrong ≡ false) where
       abbrev ioRoll : List ℕ
       ioRoll = called ioApicCall roll (rows 8 apicBytes) .roll

@@ -69,11 +69,11 @@ module _ {t : List ℕ} {p : Sections} (h : Placed t p) where
       {b : Bool} (e : b ≡ called ioApicCall roll (rows 8 (part (p .ioapics) (p .interrupts) t)) .wrong) where
     pub by-apic : b ≡ true → 16 ≡ refusal (from16 t)
     unfolding tableRules from14 from15 from16 from17 from18
-    by-apic y = sym (refusal-stop 16 (from17 t) (rule-16 t p h r ∙ rw (← e, y)))
+    by-apic y = sym (refusal-stop 16 (from17 t) (rule-16 t p h roll (r .size) (r .io-taken-shown) ∙ rw (← e, y)))
 
     pub past-16 : b ≡ false → refusal (from17 t) ≡ refusal (from16 t)
     unfolding tableRules from14 from15 from16 from17 from18
-    past-16 n = sym (refusal-go 16 (from17 t) (rule-16 t p h r ∙ rw (← e, n)))
+    past-16 n = sym (refusal-go 16 (from17 t) (rule-16 t p h roll (r .size) (r .io-taken-shown) ∙ rw (← e, n)))
 
     pub roll-16 :
         b ≡ false → {next last : List ℕ} → next ≡ called ioApicCall roll (rows 8 (part (p .ioapics) (p .interrupts) t)) .roll
@@ -86,11 +86,11 @@ module _ {t : List ℕ} {p : Sections} (h : Placed t p) where
       {b : Bool} (e : b ≡ called busCall roll (rows 8 (part (p .buses) (p .ioapics) t)) .wrong) where
     pub by-bus : b ≡ true → 15 ≡ refusal (from15 t)
     unfolding tableRules from14 from15 from16 from17 from18
-    by-bus y = sym (refusal-stop 15 (from16 t) (rule-15 t p h r ∙ rw (← e, y)))
+    by-bus y = sym (refusal-stop 15 (from16 t) (rule-15 t p h roll (r .size) (r .buses-shown) ∙ rw (← e, y)))
 
     pub past-15 : b ≡ false → refusal (from16 t) ≡ refusal (from15 t)
     unfolding tableRules from14 from15 from16 from17 from18
-    past-15 n = sym (refusal-go 15 (from16 t) (rule-15 t p h r ∙ rw (← e, n)))
+    past-15 n = sym (refusal-go 15 (from16 t) (rule-15 t p h roll (r .size) (r .buses-shown) ∙ rw (← e, n)))
 
     pub roll-15 :
         b ≡ false → {next : List ℕ} → next ≡ called busCall roll (rows 8 (part (p .buses) (p .ioapics) t)) .roll

@@ -15,9 +15,10 @@ use Rattle.laws.proofs.Tests.{whether, or-parts}
 use Rattle.laws.proofs.Refusals.{first-none}
 use Rattle.laws.proofs.Joined.{joined-append}
 use Rattle.accepted.proofs.Sound.{sound}
+use Rattle.accepted.proofs.Pieces.{no-fault}
 use Rattle.reader.specs.Walked.{Reads}
 use Rattle.reader.specs.Walked.Reads.{reads-none, reads-more}
-use Rattle.reader.proofs.Walk.{Ahead, no-fault, no-extended-fault, stays-past, reads-table, reads-stop, reads-go}
+use Rattle.reader.proofs.Walk.{Ahead, no-extended-fault, stays-past, reads-table, reads-stop, reads-go}
 use Rattle.lines.specs.Entry.{entryLine, shown}
 use Rattle.lines.proofs.EntryLines.{base-line, extended-line, base-shown, extended-shown}
 use Rattle.listing.specs.Texts.{entriesText}

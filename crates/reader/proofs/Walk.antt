@@ -24,7 +24,7 @@ use Rattle.laws.proofs.Refusals.{first-none, refusal-pass}
 use Rattle.laws.proofs.Parts.{length-part, drop-part}
 use Rattle.laws.proofs.Cut.{cut-first}
 use Rattle.accepted.proofs.Sound.{sound}
-use Rattle.accepted.proofs.Pieces.{base-told}
+use Rattle.accepted.proofs.Pieces.{base-told, no-fault}
 use Rattle.reader.specs.Walked.{Stays, Gives, Reads}
 use Rattle.reader.specs.Walked.Reads.{reads-none, reads-more}
 use Rattle.reader.proofs.Laws.{whole-fits, whole-cut, size-short, size-header, size-base, size-extended, size-past, base-whole as whole-step}
@@ -149,17 +149,6 @@ module _ (t : List ℕ) (size : List ℕ → ℕ) (end : ℕ) where
       let u : List ℕ = part at end t in
       let some-left : 0 < length u = omega (arith, length-part at end t inside) in
       rw (← drop-part at end (size u) t) (cut-first size u (size u) some-left refl some)
-
--- An entry without a fault has a known type and all its bytes.
-pub no-fault :
-    (before : ℕ) (e : Entry) → entryFault before e ≡ 0 → (type e ≤ lastBaseType) × (baseEntryLength e ≤ length e)
-unfolding entryFault refusal
-no-fault before e f =
-    let rows : List Rule = orderNumber when ltb (type e) before ∷ [] in
-    let short = ltb (length e) (baseEntryLength e) in
-    let typed = refusal-pass typeNumber (ltb lastBaseType (type e)) (cutNumber when short ∷ rows) (omega arith) f in
-    let uncut = refusal-pass cutNumber short rows (omega arith) (typed .1) in
-    (ltb-false lastBaseType (type e) (typed .0), ltb-false (length e) (baseEntryLength e) (uncut .0))
 
 module _ (t : List ℕ) (long : headerSize ≤ length t) (inside : baseLength t ≤ length t) where
   -- From any place in the base where an entry begins.

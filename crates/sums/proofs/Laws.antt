@@ -1,6 +1,6 @@
 -- Laws of the checksum, for lists of any length. Assumes nothing.
 use Prim.Native.Nat.{ℕ, zero, suc, _+_, _-_, _%_, _<_, _≤_}
-use mathlib.Core.Path.{_≡_, refl, sym, _∙_}
+use mathlib.Core.Path.{_≡_, refl, _∙_}
 use mathlib.Core.List.{List, [], _∷_, _++_}
 use native.Mathlib.Omega.{arith}
 use native.Mathlib.Numerals.{add-one}
@@ -87,18 +87,15 @@ pub stored-is : (s : List ℕ) (x : ℕ) → x < 256 → sum256 (x ∷ s) ≡ 0 
 unfolding sum256 total toStore
 stored-is s x h e = omega arith
 
--- Numbers modulo 256: w and its byte to store are 0; y is what brings x to 0; b may as well be taken modulo 256.
-mod-stored : (w : ℕ) → (w + (256 - w % 256 % 256) % 256) % 256 ≡ 0
+-- The same of numbers: w and its byte to store add to 0, and y is the byte to store beside x where they do.
+mod-stored : (w : ℕ) → (w + (256 - w % 256) % 256) % 256 ≡ 0
 mod-stored w = omega arith
 
-mod-brings : (x y : ℕ) → (x + y) % 256 ≡ 0 → (256 - x % 256 % 256) % 256 ≡ y % 256
+mod-brings : (x y : ℕ) → (x + y) % 256 ≡ 0 → (256 - x % 256) % 256 ≡ y % 256
 mod-brings x y e = omega arith
 
-mod-inner : (a b c : ℕ) → (a + b % 256 + c) % 256 ≡ (a + b + c) % 256
-mod-inner a b c = omega arith
-
-mod-none : (a b : ℕ) → a % 256 ≡ 0 → b % 256 ≡ 0 → (a + b) % 256 ≡ 0
-mod-none a b e f = omega arith
+mod-more : (a b c : ℕ) → a % 256 ≡ b % 256 → (a + c) % 256 ≡ (b + c) % 256
+mod-more a b c e = omega arith
 
 -- The byte to store after a part of bytes that sum to 0 is exchanged, from the byte before and both parts' sums.
 pub stored-sets :
@@ -108,12 +105,16 @@ pub stored-sets :
 unfolding sum256 toStore
 stored-sets s i at w h k f e =
     let v = sets s at w in
-    let part = total (take (length w) (drop at s)) in
-    let x = total (set v i 0) in
-    let y = (256 - total w % 256 % 256) % 256 in
-    let one : x + getD s i 0 ≡ total v + 0 = rw k at (total-set v i 0 (rw (length-sets s at w) h)) in
-    let sum : x + getD s i 0 + part + y ≡ total s + (total w + y) = omega (arith, one, total-sets s at w f) in
-    let none = mod-none (total s) (total w + y) e (mod-stored (total w)) in
-    mod-brings x (getD s i 0 + part + y)
-    (let shape : x + (getD s i 0 + part + y) ≡ total s + (total w + y) = omega (arith, sum) in rw shape none)
-    ∙ sym (mod-inner (getD s i 0) part y)
+    let old = getD s i 0 in
+    let part = sum256 (take (length w) (drop at s)) in
+    let x = sum256 (set v i 0) in
+    let y = toStore (sum256 w) in
+    let without : (x + old) % 256 ≡ (sum256 v + 0) % 256 = rw k at (sum-set v i 0 (rw (length-sets s at w) h)) in
+    let all : (sum256 v + part) % 256 ≡ (0 + sum256 w) % 256 = rw e at (sum-sets s at w f) in
+    let sum : (x + old + part) % 256 ≡ (sum256 v + 0 + part) % 256 = mod-more (x + old) (sum256 v + 0) part without in
+    let same : sum256 v + 0 + part ≡ sum256 v + part = omega arith in
+    let zero : (x + old + part + y) % 256 ≡ (0 + sum256 w + y) % 256 =
+    mod-more (x + old + part) (0 + sum256 w) y (sum ∙ rw same all) in
+    let shape : x + (old + part + y) ≡ x + old + part + y = omega arith in
+    let plain : 0 + sum256 w + y ≡ sum256 w + y = omega arith in
+    mod-brings x (old + part + y) (rw shape (zero ∙ rw plain (mod-stored (sum256 w))))

@@ -1,18 +1,18 @@
 -- A law of Ways.antt for each way out.
 use native.Mathlib.Omega.{arith}
 use borrow.Author.Needs.{needs}
-use Rattle.editor.proofs.Ways.{entry-size, io-17, io-past}
+use Rattle.editor.proofs.Ways.{entry-size, io-wrong-17, io-right}
 use Rattle.editor.proofs.again.io_interrupt.Statement.{statement}
 use Rattle.editor.proofs.again.io_interrupt.Tie as tie
 
-call-requires : tie.Need-call-requires
-call-requires c κs = (entry-size (c .before .before .before .before .before .pre .0) (c .before .before .before .before .before .args .at) (c .before .before .before .before .before .pre .1), omega arith)
+enroll-named-requires : tie.Need-enroll-named-requires
+enroll-named-requires c κs = (entry-size (c .before .before .before .before .before .pre .0) (c .before .before .before .before .before .args .at) (c .before .before .before .before .before .pre .1), omega arith)
 
 returns : tie.Need-returns
-returns c = io-17 (c .before .before .before .before .before .before .before .before .before .pre .0) (c .before .before .before .before .before .before .before .before .before .args .at) (c .before .before .before .before .before .before .before .before .before .pre .1) (c .before .before .before .call .ensures) (c .before .wrong-io .ensures) (c .if1 .taken)
+returns c = io-wrong-17 (c .before .before .before .before .before .before .before .before .before .pre .0) (c .before .before .before .before .before .before .before .before .before .args .at) (c .before .before .before .before .before .before .before .before .before .pre .1) (c .before .before .before .enroll-named .ensures) (c .before .wrong-io .ensures) (c .if1 .taken)
 
 returns-2 : tie.Need-returns-2
-returns-2 c = io-past (c .before .before .before .before .before .before .before .before .before .pre .0) (c .before .before .before .before .before .before .before .before .before .args .at) (c .before .before .before .before .before .before .before .before .before .pre .1) (c .before .before .before .call .ensures) (c .before .wrong-io .ensures) (c .if1 .left)
+returns-2 c = io-right (c .before .before .before .before .before .before .before .before .before .pre .0) (c .before .before .before .before .before .before .before .before .before .args .at) (c .before .before .before .before .before .before .before .before .before .pre .1) (c .before .before .before .enroll-named .ensures) (c .before .wrong-io .ensures) (c .if1 .left)
 
 pub io-interrupt-spec : {M : Type 1} → statement M
 io-interrupt-spec =
@@ -21,7 +21,7 @@ io-interrupt-spec =
     (λ c. search needs) (λ c. search needs) (λ c. search needs) (λ c. search needs)
     (λ c. search needs) (λ c. search needs) (λ c. search needs)
     (λ c. search needs) (λ c. search needs) (λ c. search needs)
-    call-requires
+    enroll-named-requires
     (λ c κs. search needs)
     returns
     returns-2)

@@ -12,7 +12,7 @@ use Rattle.laws.proofs.Tests.{eqb-comm, whether}
 use Rattle.laws.proofs.Rows.{row-byte}
 use Rattle.roll.specs.Roll.{marked}
 use Rattle.roll.proofs.Laws.{length-marks, marked-put, marked-none}
-use Rattle.editor.specs.Amended.{has, enrolledIf, callOf}
+use Rattle.editor.specs.Amended.{has, enrolledIf, rollFor}
 
 -- ---- At a place of a slice
 
@@ -57,18 +57,18 @@ module _ (k marks : ℕ) (bs ts : List Entry) (e : Entry) where
   sized : length none ≡ 256
   sized = length-replicate {A = ℕ} 256 0
 
-  at : (j y : ℕ) → y < 256 → marked j (callOf marks bs ts e none) y
+  at : (j y : ℕ) → y < 256 → marked j (rollFor marks bs ts e none) y
       ≡ (eqb y everyone && bit j 5
       || (any (has 1 (destination e)) ts && (eqb y (destination e) && bit j marks)
       || (any (has 1 (sourceBus e)) bs && (eqb y (sourceBus e) && bit j 8) || false)))
-  unfolding callOf
+  unfolding rollFor
   at j y h =
       let s = length-if j 8 bs (sourceBus e) none sized in
       let b = length-if j marks ts (destination e) some s in
       marked-put j 5 both everyone y (rw b h)
       ∙ rw (if-marked j marks ts (destination e) some s y h, if-marked j 8 bs (sourceBus e) none sized y h, marked-none j 256 y)
 
-  pub call-bus : sourceBus e < 256 → bit 3 marks ≡ false → marked 3 (callOf marks bs ts e none) (sourceBus e) ≡ among (sourceBus e) (each idOf bs)
+  pub call-bus : sourceBus e < 256 → bit 3 marks ≡ false → marked 3 (rollFor marks bs ts e none) (sourceBus e) ≡ among (sourceBus e) (each idOf bs)
   unfolding bit
   call-bus h m =
       at 3 (sourceBus e) h
@@ -82,7 +82,7 @@ module _ (k marks : ℕ) (bs ts : List Entry) (e : Entry) where
 
   pub call-target :
       destination e < 256 → bit k 5 ≡ true → bit k 8 ≡ false → bit k marks ≡ true
-      → marked k (callOf marks bs ts e none) (destination e) ≡ (eqb (destination e) everyone || among (destination e) (each idOf ts))
+      → marked k (rollFor marks bs ts e none) (destination e) ≡ (eqb (destination e) everyone || among (destination e) (each idOf ts))
   call-target h f g m =
       at k (destination e) h
       ∙ rw (f, g, m, and-true (eqb (destination e) everyone), and-false (eqb (destination e) (sourceBus e)), and-false (any (has 1 (sourceBus e)) bs), eq-eqb (destination e) (destination e) refl, ← has-among (destination e) ts)

@@ -6,9 +6,9 @@ use lib.ListN.{length}
 use borrow.Author.Needs.{needs}
 use Rattle.laws.proofs.Rows.{Seeks, seeks-done, seeks-stop, seeks-next}
 use Rattle.editor.specs.Amended.{has}
-use Rattle.editor.proofs.Calls.{id-here, id-other}
-use Rattle.editor.proofs.again.names.Statement.{statement}
-use Rattle.editor.proofs.again.names.Tie as tie
+use Rattle.editor.proofs.OneRoll.{id-here, id-other}
+use Rattle.editor.proofs.again.any_has.Statement.{statement}
+use Rattle.editor.proofs.again.any_has.Tie as tie
 
 abbrev Inv-loop : tie.InvT-loop
 Inv-loop s size k id at₀ at = Seeks (has k id) size s at
@@ -34,8 +34,8 @@ loop-again c =
 returns-2 : tie.Need-returns-2 Inv-loop μ-loop
 returns-2 c = seeks-done _ (c .before .before .args .size) _ (c .before .loop .at) (c .before .loop .inv) (omega arith)
 
-pub names-spec : {M : Type 1} → statement M
-names-spec =
+pub any-has-spec : {M : Type 1} → statement M
+any-has-spec =
     tie.close
     (tie.spec
     Inv-loop
