@@ -197,7 +197,7 @@ struct names {
 
 void find_names(struct builder *b, struct names *n);
 
-/* A sound table of which each ID is named by one kind of entry, two or none. */
+/* A sound table in which each ID is named by one kind of entry, by two or by none. */
 void named_case(struct rng *r, struct test_case *c);
 
 /* A table with one faulty entry, and the edit that would mend it. */

@@ -292,9 +292,9 @@ static bool id_edit(struct rng *r, struct edited *t, struct edit_case *e)
     if (entry == NULL)
         return false;
     state_this(t, entry, e);
-    if (roll < 75)
+    if (roll < 75 || entry[0] == 1)
         change_id(r, &t->b, entry, e->wanted);
-    else if (entry[0] != 1)
+    else
         e->wanted[3] ^= 1;
     if (roll >= 65 && roll < 80)
         spoil(r, e->wanted);
@@ -315,7 +315,7 @@ static bool interrupt_edit(struct rng *r, struct edited *t, struct edit_case *e)
         return false;
     state_this(t, entry, e);
     uint8_t to = w[0] == 3 ? 2 : 0;
-    switch (rng_below(r, 8)) {
+    switch (rng_below(r, 10)) {
     case 0: w[1] = (uint8_t)rng_range(r, 4, rng_chance(r, 50) ? 4 : 255); break;
     case 1: w[2] = (uint8_t)((w[2] & 0xFC) | 2); break;
     case 2: w[2] = (uint8_t)((w[2] & 0xF3) | 8); break;
@@ -323,6 +323,8 @@ static bool interrupt_edit(struct rng *r, struct edited *t, struct edit_case *e)
     case 4: unlisted(r, &t->b, to, false, &w[6]); break;
     case 5: w[6] = listed_id(r, &t->b, 2 - to); break;   /* of the other side */
     case 6: w[6] = 255; break;
+    case 7: w[4] = w[6]; break;
+    case 8: w[4] = 255; break;
     default: w[7] = (uint8_t)rng_range(r, 1, 3);
     }
     expect_edit(t, e);

@@ -1,7 +1,7 @@
 /*
  * What rules 14 to 18 say of a table after an edit, word by word from the paper and
- * over the whole table, whatever was exchanged in it.  Lengths, types and the
- * extended part are as before, so what else they forbid is not there.
+ * over the whole table, whatever was exchanged in it.  The header, lengths,
+ * types and the extended part are as before, so what else they forbid is not there.
  */
 #include "cases.h"
 
@@ -53,7 +53,10 @@ static bool breaks_15(struct builder *b)
     return id_twice(b, 1, any);
 }
 
-/* "Address 0 or not a multiple of 1,024"; document 02: no word of processors */
+/*
+ * "Address 0 or not a multiple of 1,024"; that a processor has the ID is no fault
+ * (document 02)
+ */
 static bool breaks_16(struct builder *b)
 {
     EACH(b, 2, e) {

@@ -56,18 +56,16 @@ struct nameable {
     uint32_t most;   /* of IDs: 255, or such that those of two types often meet */
 };
 
-/* IDs up to that in any order, then the others; 255 is not among the first. */
+/* IDs up to n->most in any order, without 255. */
 static void draw_ids(struct rng *r, const struct nameable *n, uint8_t id[256])
 {
     uint8_t order[256];
-    uint32_t first = 0, last = 256;
+    uint32_t count = 0;
 
     rng_shuffled(r, order);
     for (uint32_t i = 0; i < 256; i++)
         if (order[i] <= n->most && order[i] != 255)
-            id[first++] = order[i];
-        else
-            id[--last] = order[i];
+            id[count++] = order[i];
 }
 
 /* An ID for one that is off: any, 255, or one that another has. */
@@ -107,11 +105,14 @@ static void named_buses(struct rng *r, struct builder *b, struct nameable *n)
         IO, IO, LOCAL, LOCAL, MAPPING, LINK, LINK, PARENT, PARENT, MODIFIER,
     };
     uint8_t id[256];
+    uint32_t count = rng_range(r, 1, 12);
 
     draw_ids(r, n, id);
+    if (rng_chance(r, 40))
+        id[rng_below(r, count)] = 255;   /* a bus like any other */
     list_add(&n->buses[IO], id[0]);
     list_add(&n->buses[LOCAL], id[0]);
-    for (uint32_t i = 0, count = rng_range(r, 1, 12); i < count; i++) {
+    for (uint32_t i = 0; i < count; i++) {
         add_bus(b, id[i], bus_names[rng_below(r, 18)]);
         list_add(&n->listed, id[i]);
         for (uint32_t k = i == 0 ? 0 : often[rng_below(r, 5)]; k > 0; k--)
@@ -140,7 +141,10 @@ static void named_io_apics(struct rng *r, struct builder *b, struct nameable *n,
     }
 }
 
-/* One for each bus and each target that these may name; IRQs name no bus. */
+/*
+ * One for each bus and each target that these may name.  IRQs are bus IDs too, and
+ * name none.
+ */
 static void named_interrupts(struct rng *r, struct builder *b, uint8_t type,
                              const struct list *buses, const struct list *targets,
                              const struct list *irqs)

@@ -119,6 +119,7 @@ static void edit_next(void)
     static uint8_t before[CASE_ROOM];
 
     memcpy(before, table.bytes, table.size);
+    must(edit.expected >= 0, "the generator knows no answer");
     unsigned number = edit_both();
     if (number == 0 || number == 23)
         note_id();
@@ -342,6 +343,7 @@ void edits(struct rng *r, number count, const char *seed)
     number fixed = t.cases;
     memset(inner, 0, sizeof inner);
     memset(given_up, 0, sizeof given_up);
+    /* Twice as many: more than half of them are on tables for edits of IDs. */
     for (t = (struct tally){ 0 }; t.cases < 2 * count; ) {
         if (rng_chance(r, 5)) {   /* refused as it stands, whatever it would mend */
             runs++;

@@ -101,7 +101,8 @@ LINKS = "walked.ext[LINK]", "walked.ext[MODIFIER]", 8
 MODIFIERS = "walked.ext[MODIFIER]", "walked.ext[EXT_TYPES]", 8
 
 def instead(where, number, *having):
-    """Where it is so, another number; with rows of (name, part, byte): where an entry of the part has the old ID there."""
+    """Judged again, with another number where `where` holds. A row (name, part, byte) is a flag: whether an entry of the
+    part has the old ID in that byte."""
     found = "".join(f"    bool {name} = false;\n" for name in sorted({name for name, _, _ in having}))
     for name, (first, last, step), byte in having:
         found += f"    for (size_t k = {first}; k < {last}; k += {step})\n        {name} |= t[k + {byte}] == stated[1];\n"
@@ -178,6 +179,7 @@ EDIT = [
  (23, "I/O APIC switched on not judged", AGAIN, instead("refusal == 16 && wanted[3] & ~stated[3] & ENABLED", 0)),
  (23, "bus of I/O interrupts alone not seen", AGAIN, instead("refusal == 17 && t[at] == BUS && !named", 0, ("named", LOCAL_INTS, 4))),
  (23, "bus of local interrupts alone not seen", AGAIN, instead("refusal == 17 && t[at] == BUS && !named", 0, ("named", IO_INTS, 4))),
+ (23, "bus 255 excepted", AGAIN, instead(f"refusal >= 17 && {OF_BUS} && stated[1] == ALL", 0)),
  (23, "bus of mappings alone not seen", AGAIN, instead("refusal == 18 && !extended", 0, *EXT_NAMED[1:])),
  (23, "bus of links alone not seen", AGAIN, instead("refusal == 18 && !extended", 0, *EXT_NAMED[:1], *EXT_NAMED[2:])),
  (23, "parent alone not seen", AGAIN, instead("refusal == 18 && !extended", 0, *EXT_NAMED[:2], *EXT_NAMED[3:])),

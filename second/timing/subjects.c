@@ -54,8 +54,9 @@ static const struct board boards[] = {
     { "a typical board, 42 entries", make_typical, 0, FIRST,
       EVERY | BIT(EDIT_ENTRY), 0 },
     { "full table, all entry types", make_mixed, 0, FIRST,
-      EVERY | BIT(EDIT_ENTRY) | BIT(EDIT_ID_REFUSED), EVERY },
-    { "full table, some IDs unnamed", make_spare, 0, FIRST, BIT(EDIT_ID), 0 },
+      EVERY | BIT(EDIT_ENTRY) | BIT(EDIT_ID_REFUSED), EVERY | BIT(EDIT_ID_REFUSED) },
+    { "full table, some IDs unnamed", make_spare, 0, FIRST, BIT(EDIT_ID),
+      BIT(EDIT_ID) },
     { "full table in 65,536 bytes", make_mixed, SUBJECT_ROOM, LAST, EVERY, DUMPS },
     { "65,536 bytes, pointer in the last paragraph", make_typical, SUBJECT_ROOM,
       LAST, BIT(READ) | BIT(LIST) | BIT(LIST_FITTING), 0 },
@@ -166,8 +167,8 @@ static size_t count_below(unsigned type)
 
 /*
  * The entry in the middle of its type, where the ID stays; else the last of its
- * type, which nothing names on one of the boards: elsewhere an interrupt does, and
- * that is refused with 17.
+ * type: on the board with some IDs unnamed nothing names it; on the full table an
+ * interrupt does, and that is refused with 17.
  */
 static void ask_change(struct subject *s, const struct change *c)
 {

@@ -24,7 +24,7 @@ enum work {
 #define BIT(work) (1u << (work))
 
 struct subject {
-    const char *what, *name;   /* is done; and of the board or book */
+    const char *what, *name;   /* what is done, and the board or book */
     enum work work;
     size_t size;
     uint64_t answer;
