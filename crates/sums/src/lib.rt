@@ -1,6 +1,7 @@
 // Checksums: the sum of the bytes of a slice modulo 256, and the byte that brings a sum to 0.
 // Each function is its definition in crates/mps/specs/Sums.antt, for every slice and every byte.
-// proofs/Laws.antt has what the crates above cite: how a sum follows an append, a changed byte, a stored checksum.
+// proofs/Laws.antt has what the crates above cite: how a sum follows an append, a changed byte, an exchanged part, a stored
+// checksum.
 ghost use mathlib.Core.Path.{_≡_};
 ghost use Rattle.mps.specs.Sums.{sum256, toStore};
 
