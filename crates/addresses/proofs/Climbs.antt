@@ -1,4 +1,4 @@
--- The list of parents, and that the climb over marks and parents is mps's `climb`. Assumes nothing.
+-- The list of parents, and that the climb over marks, parents and what is said below is mps's `climb`. Assumes nothing.
 use Prim.Native.Nat.{ℕ, zero, suc, _+_, _-_, _*_, _/_, _%_, _<_}
 use mathlib.Core.Path.{_≡_, refl, ap, sym, _∙_}
 use mathlib.Core.Bool.{Bool, true, false, cond, true≢false, false≢true}
@@ -13,14 +13,16 @@ use borrow.Author.Tests.{eqb-true, eqb-false}
 use Rattle.mps.specs.Words.{byte, among, keep, any, each, twice, none, head}
 use Rattle.mps.specs.Layout.{Entry, extendedBus, parentBus}
 use Rattle.mps.specs.Rules.{onBus, links, parentsOf}
-use Rattle.mps.specs.Addresses.{takesAway, coversOrAdds, hasEntry, subtractive, Say, says, answer, climb}
+use Rattle.mps.specs.Addresses.{takesAway, coversOrAdds, hasEntry, subtractive, Say, says, answer, claimBeside, silenceBeside, unclaimed, leaves, climb}
 use Rattle.mps.specs.declared.Seen.{Seen}
-use Rattle.mps.specs.declared.Seen.the-variants.{No, Yes, Undeclared}
+use Rattle.mps.specs.declared.Seen.the-variants.{No, Yes, Undeclared, Refused}
 use Rattle.laws.proofs.Tests.{whether, or-parts}
 use Rattle.laws.proofs.Small.{Bytes, Small, small-none, small-more, bytes-set}
+use Rattle.laws.proofs.Claims.{unclaimed-all}
 use Rattle.laws.proofs.Circle.{parentsOf-here, parentsOf-skip}
 use Rattle.marks.specs.Marks.{meaning, parented}
-use Rattle.addresses.specs.Climbing.{climbIn, ended}
+use Rattle.marks.proofs.Below.{spoken}
+use Rattle.addresses.specs.Climbing.{leftBy, climbIn, narrowed, instead, ended}
 
 -- ---- Parents
 
@@ -130,34 +132,95 @@ ended-at mark climbed h =
     let high : (climbed * 256 + mark) / 256 ≡ climbed = omega arith in
     rw (low, high)
 
+-- Where the mark that stands for yes is that of yes, an answer is what it is.
+pub instead-yes : (x : Seen) → instead 3 x ≡ x
+instead-yes (No k) = refl
+instead-yes (Yes k) = refl
+instead-yes (Undeclared k) = refl
+instead-yes (Refused n) = refl
+
+-- To narrow the mark that stands for yes, and take the parent's answer, is to keep it, and take what is left of that answer.
+instead-left : (kept said : ℕ) (x : Seen) → instead (narrowed kept said) x ≡ instead kept (leftBy said x)
+instead-left kept zero x = refl
+instead-left kept (suc zero) (No k) = refl
+instead-left kept (suc zero) (Yes k) = refl
+instead-left kept (suc zero) (Undeclared k) = refl
+instead-left kept (suc zero) (Refused n) = refl
+instead-left kept (suc (suc said)) (No k) = refl
+instead-left kept (suc (suc said)) (Yes k) = refl
+instead-left kept (suc (suc said)) (Undeclared k) = refl
+instead-left kept (suc (suc said)) (Refused n) = refl
+
+-- The end by a mark, where another stands for yes.
+module _ (mark kept climbed : ℕ) where
+  pub ends-yes : mark ≡ 3 → answer (meaning kept) climbed (Undeclared climbed) ≡ instead kept (answer (meaning mark) climbed (Undeclared climbed))
+  ends-yes e = rw e
+
+pub ends-own : (mark kept climbed : ℕ) → (mark ≡ 3 → ⊥)
+    → answer (meaning mark) climbed (Undeclared climbed) ≡ instead kept (answer (meaning mark) climbed (Undeclared climbed))
+ends-own zero kept climbed n = refl
+ends-own (suc zero) kept climbed n = refl
+ends-own (suc (suc zero)) kept climbed n = refl
+ends-own (suc (suc (suc zero))) kept climbed n = absurd (n refl)
+ends-own (suc (suc (suc (suc mark)))) kept climbed n = refl
+
+-- The mark for a yes where one claims it.
+pub narrowed-claimed : (kept said : ℕ) → (said ≡ 0 → ⊥) → (said ≡ 1 → ⊥) → 1 ≡ narrowed kept said
+narrowed-claimed kept zero n m = absurd (n refl)
+narrowed-claimed kept (suc zero) n m = absurd (m refl)
+narrowed-claimed kept (suc (suc said)) n m = refl
+
 -- The steps of the climb: no bus is left, the bus asks its parent, or it does not.
-module _ (marks parents : List ℕ) (bus at climbed : ℕ) (b : at ≡ bus) {r : Seen} where
-  pub climb-last : (left : ℕ) → left ≡ 0 → r ≡ answer (meaning (byte marks at)) climbed (Undeclared climbed)
-      → r ≡ climbIn left marks parents bus climbed
+module _ (marks parents below : List ℕ) (bus at climbed kept : ℕ) (b : at ≡ bus) {r : Seen} where
+  pub climb-last : (left : ℕ) → left ≡ 0 → r ≡ instead kept (answer (meaning (byte marks at)) climbed (Undeclared climbed))
+      → r ≡ instead kept (climbIn left marks parents below bus climbed)
   unfolding climbIn
   climb-last left z e = e ∙ rw (z, b)
 
-  pub climb-up : (left : ℕ) → (left ≡ 0 → ⊥) → byte marks at ≡ 2 → r ≡ climbIn (left - 1) marks parents (byte parents at) (climbed + 1)
-      → r ≡ climbIn left marks parents bus climbed
+  pub climb-up : (left up at-up kept-up : ℕ) → (left ≡ 0 → ⊥) → byte marks at ≡ 2 → up ≡ byte parents at → at-up ≡ up
+      → kept-up ≡ narrowed kept (byte below at-up)
+      → r ≡ instead kept-up (climbIn (left - 1) marks parents below up (climbed + 1))
+      → r ≡ instead kept (climbIn left marks parents below bus climbed)
   unfolding climbIn
-  climb-up zero z m e = absurd (z refl)
-  climb-up (suc left) z m e = rw (← b, m, ← sub-one (suc left)) e
+  climb-up zero up at-up kept-up z m u a n e = absurd (z refl)
+  climb-up (suc left) up at-up kept-up z m u a n e =
+      rw (← b, m, ← u) ((rw (n, a, sub-one (suc left)) at e) ∙ instead-left kept (byte below up) _)
 
-  pub climb-own : (left : ℕ) → (left ≡ 0 → ⊥) → (byte marks at ≡ 2 → ⊥) → r ≡ answer (meaning (byte marks at)) climbed (Undeclared climbed)
-      → r ≡ climbIn left marks parents bus climbed
+  pub climb-own : (left : ℕ) → (left ≡ 0 → ⊥) → (byte marks at ≡ 2 → ⊥)
+      → r ≡ instead kept (answer (meaning (byte marks at)) climbed (Undeclared climbed))
+      → r ≡ instead kept (climbIn left marks parents below bus climbed)
   unfolding climbIn
   climb-own zero z m e = absurd (z refl)
-  climb-own (suc left) z m e = e ∙ rw (← b) (own-answer (byte marks at) climbed _ _ m)
+  climb-own (suc left) z m e = e ∙ rw (← b) (ap (instead kept) (own-answer (byte marks at) climbed _ _ m))
+
+-- What is left of an answer by what is said below, where that tells whether one claims the address and whether one is silent.
+left-spoken : (claim silence : Bool) (x : Seen) → leftBy (spoken claim silence) x ≡ unclaimed claim silence x
+left-spoken true silence (No k) = refl
+left-spoken true silence (Yes k) = refl
+left-spoken true silence (Undeclared k) = refl
+left-spoken true silence (Refused n) = refl
+left-spoken false true x = refl
+left-spoken false false x = sym (unclaimed-all x)
 
 -- From any lists that say what the entries say, of buses below 256.
-pub climb-in : (left : ℕ) (marks parents : List ℕ) (xs : List Entry) (kind address : ℕ)
-    → ((bus : ℕ) → bus < 256 → meaning (byte marks bus) ≡ says xs bus kind address)
-    → ((bus : ℕ) → bus < 256 → says xs bus kind address ≡ Say.parent → byte parents bus ≡ head bus (parentsOf (links xs) bus))
-    → Bytes parents
-    → (bus climbed : ℕ) → bus < 256
-    → climbIn left marks parents bus climbed ≡ climb left xs bus kind address climbed
-unfolding climbIn climb
-climb-in zero marks parents xs kind address m p b bus climbed h = rw (m bus h)
-climb-in (suc left) marks parents xs kind address m p b bus climbed h =
-    rw (m bus h) (answer-above (says xs bus kind address) climbed
-    (λ q. rw (← p bus h q) (climb-in left marks parents xs kind address m p b (byte parents bus) (climbed + 1) (b bus))))
+module _ (marks parents below : List ℕ) (xs : List Entry) (kind address : ℕ)
+    (m : (bus : ℕ) → bus < 256 → meaning (byte marks bus) ≡ says xs bus kind address)
+    (p : (bus : ℕ) → bus < 256 → says xs bus kind address ≡ Say.parent → byte parents bus ≡ head bus (parentsOf (links xs) bus))
+    (b : Bytes parents)
+    (s : (up bus : ℕ) → up < 256 → says xs bus kind address ≡ Say.parent
+    → byte below up ≡ spoken (claimBeside xs up bus kind address) (silenceBeside xs up bus))
+  where
+    left-leaves : (up bus : ℕ) → up < 256 → says xs bus kind address ≡ Say.parent → (x : Seen)
+        → leftBy (byte below up) x ≡ leaves xs up bus kind address x
+    unfolding leaves
+    left-leaves up bus h q x = rw (s up bus h q) (left-spoken _ _ x)
+
+    pub climb-in : (left bus climbed : ℕ) → bus < 256
+        → climbIn left marks parents below bus climbed ≡ climb left xs bus kind address climbed
+    unfolding climbIn climb
+    climb-in zero bus climbed h = rw (m bus h)
+    climb-in (suc left) bus climbed h =
+        rw (m bus h) (answer-above (says xs bus kind address) climbed
+        (λ q. rw (← p bus h q)
+        (left-leaves (byte parents bus) bus (b bus) q _
+        ∙ rw (climb-in left (byte parents bus) (climbed + 1) (b bus)))))

@@ -11,10 +11,11 @@ use Rattle.mps.specs.Answers.{seenOf, linksOf}
 use Rattle.mps.specs.Layout.{Entry, ofType, busType, idOf, baseEntries, extendedEntries}
 use Rattle.mps.specs.Rules.{idsOf, links, parentsOf}
 use Rattle.mps.specs.Judge.{tableRules, tableRefusal}
-use Rattle.mps.specs.Addresses.{Say, says, answer, climb, seenBy, addressRules, seen}
+use Rattle.mps.specs.Addresses.{Say, says, answer, leaves, climb, seenBy, addressRules, seen}
 use Rattle.mps.specs.declared.Seen.{Seen}
 use Rattle.mps.specs.declared.Seen.the-variants.{Undeclared}
 use Rattle.laws.proofs.Lists.{keep-most, length-each}
+use Rattle.laws.proofs.Claims.{unclaimed-cases}
 use Rattle.laws.proofs.Refusals.{refusal-append, first-none}
 use Rattle.laws.proofs.Small.{Bytes}
 use Rattle.accepted.proofs.Sound.{entries-most}
@@ -25,13 +26,19 @@ links-answer Say.yes k n above h g = h
 links-answer Say.parent k n above h g = g
 links-answer Say.undeclared k n above h g = h
 
+-- "The earlier steps and the link count stay.": an answer is amended, and not its links.
+pub links-leaves : (xs : List Entry) (up bus kind address : ℕ) (above : Seen) → linksOf (leaves xs up bus kind address above) ≡ linksOf above
+unfolding leaves
+links-leaves xs up bus kind address above =
+    unclaimed-cases (λ x. linksOf x ≡ linksOf above) _ _ above refl (λ k e. rw e) (λ k e. rw e)
+
 pub links-climb : (left : ℕ) (xs : List Entry) (bus kind address k : ℕ) → linksOf (climb left xs bus kind address k) ≤ k + left
 unfolding climb
 links-climb zero xs bus kind address k = links-answer (says xs bus kind address) k (k + 0) (Undeclared k) (omega arith) (omega arith)
 links-climb (suc left) xs bus kind address k =
     let up = head bus (parentsOf (links xs) bus) in
-    links-answer (says xs bus kind address) k (k + suc left) (climb left xs up kind address (k + 1)) (omega arith)
-    (omega (arith, links-climb left xs up kind address (k + 1)))
+    links-answer (says xs bus kind address) k (k + suc left) _ (omega arith)
+    (omega (arith, links-leaves xs up bus kind address (climb left xs up kind address (k + 1)), links-climb left xs up kind address (k + 1)))
 
 links-by : (t : List ℕ) (bus kind address : ℕ) → linksOf (seenBy t bus kind address) ≤ length (idsOf busType (baseEntries t)) - 1
 unfolding seenBy

@@ -4,11 +4,15 @@
 // specs/Climbing.antt. That the links climbed are at most the listed buses less one is proved in proofs/Links.antt
 // (`links-bound`).
 //
-// One pass over the entries gathers what each bus says of the address by itself, and its parent (`marks`); then the climb goes
-// from bus to bus. So the cost is that of the table, however long the chain of parents is. The climb lends on two arrays and
-// answers a number, so that it is a loop when it runs: a slice or an answer of two words would be copied at each bus.
+// One pass over the entries gathers what each bus says of the address by itself and its parent, one over the links what the
+// buses below each say (`marks`); then the climb goes from bus to bus. So the cost is that of the table, however long the chain
+// of parents is, and however many buses have one parent. The climb lends on three arrays and answers a number, so that it is a
+// loop when it runs: a slice or an answer of two words would be copied at each bus.
+use marks::DECLARED;
+use marks::FREE;
 use marks::PARENT;
 use marks::SEES;
+use marks::SILENT;
 use marks::UNDECLARED;
 use mps::Examined;
 use mps::Sections;
@@ -22,8 +26,8 @@ ghost use Rattle.mps.specs.Judge.{tableRefusal};
 ghost use Rattle.mps.specs.Addresses.{answer, seen as isSeen};
 ghost use Rattle.mps.specs.declared.Seen.the-variants.{Undeclared};
 ghost use Rattle.judge.specs.Placed.{Placed};
-ghost use Rattle.marks.specs.Marks.{meaning, nothing, allMarked, parented};
-ghost use Rattle.addresses.specs.Climbing.{climbIn, ended};
+ghost use Rattle.marks.specs.Marks.{meaning};
+ghost use Rattle.addresses.specs.Climbing.{climbIn, climbOver, narrowed, instead, ended};
 
 pub fn seen(t: &[u8], bus: u8, kind: u8, address: u64) -> Seen
     ensures { λ r. ⌜ r ≡ isSeen (now (t .entry)) bus kind address ⌝ }
@@ -52,6 +56,10 @@ fn behind_table(t: &[u8], p: Sections, bus: u8, kind: u8, address: u64) -> Seen
     if !buses::is_listed(&t[start..end], bus) {
         return Seen::Refused(24);
     }
+    // Many boards declare no address: for them nothing is gathered.
+    if mappings == others {
+        return Seen::Undeclared(0);
+    }
     // The bus itself is visited.
     let left = (end - start) / layout::ENTRY_SIZE - 1;
     ask(
@@ -76,20 +84,22 @@ fn ask(
     left: usize,
 ) -> Seen
     requires { ⌜ left < 65535 ⌝ }
-    ensures { λ r. ⌜ r ≡ climbIn left (allMarked kind address nothing (rows mappingSize (now (mappings .entry))) (rows linkSize (now (links .entry))) (rows linkSize (now (modifiers .entry)))) (parented nothing (rows linkSize (now (links .entry)))) bus 0 ⌝ }
+    ensures { λ r. ⌜ r ≡ climbOver left kind address (rows mappingSize (now (mappings .entry))) (rows linkSize (now (links .entry))) (rows linkSize (now (modifiers .entry))) bus ⌝ }
 {
     let mut marks = [0; 256];
     let mut parents = [0; 256];
+    let mut below = [0; 256];
     marks::gather(
         &mut marks,
         &mut parents,
+        &mut below,
         mappings,
         links,
         modifiers,
         kind,
         address,
     );
-    let end = climb(&marks, &parents, bus, left, 0);
+    let end = climb(&marks, &parents, &below, bus, left, 0, SEES);
     own((end % MARKS) as u8, end / MARKS)
 }
 
@@ -115,18 +125,60 @@ fn end_at(mark: u8, climbed: usize) -> usize
     climbed * MARKS + numbers::wide(mark) as usize
 }
 
-// "the parent's answer, if the bus has the subtractive bit". `left` are the listed buses not visited yet; it falls.
-fn climb(marks: &[u8; 256], parents: &[u8; 256], bus: u8, left: usize, climbed: usize) -> usize
+// The end of a climb where the bus there answers by itself, or can ask no further.
+fn end_by(mark: u8, kept: u8, climbed: usize) -> usize
+    requires { ⌜ climbed ≤ 65535 ⌝ }
+    ensures { λ r. ⌜ ended r ≡ instead kept (answer (meaning mark) climbed (Undeclared climbed)) ⌝ }
+{
+    if mark == SEES {
+        return end_at(kept, climbed);
+    }
+    end_at(mark, climbed)
+}
+
+// What the buses below a parent leave of its yes. A link nearer the top decides before one below it, so this one's word goes
+// over what was found so far. Where one claims the address, the mark is that of a bus that has entries and does not see it: no.
+fn narrow(kept: u8, said: u8) -> u8
+    ensures { λ r. ⌜ r ≡ narrowed kept said ⌝ }
+{
+    match said {
+        FREE => kept,
+        SILENT => UNDECLARED,
+        _ => DECLARED,
+    }
+}
+
+// "the parent's answer, if the bus has the subtractive bit". `left` are the listed buses not visited yet; it falls. `kept` is
+// the mark that the links climbed so far leave for a yes.
+fn climb(
+    marks: &[u8; 256],
+    parents: &[u8; 256],
+    below: &[u8; 256],
+    bus: u8,
+    left: usize,
+    climbed: usize,
+    kept: u8,
+) -> usize
     requires { ⌜ climbed + left ≤ 65535 ⌝ }
-    ensures { λ r. ⌜ ended r ≡ climbIn left (now (marks .entry)) (now (parents .entry)) bus climbed ⌝ }
+    ensures { λ r. ⌜ ended r ≡ instead kept (climbIn left (now (marks .entry)) (now (parents .entry)) (now (below .entry)) bus climbed) ⌝ }
 {
     let at = numbers::wide(bus) as usize;
     let mark = marks[at];
     if left == 0 {
-        return end_at(mark, climbed);
+        return end_by(mark, kept, climbed);
     }
     if mark == PARENT {
-        return climb(marks, parents, parents[at], left - 1, climbed + 1);
+        let up = parents[at];
+        let said = below[numbers::wide(up) as usize];
+        return climb(
+            marks,
+            parents,
+            below,
+            up,
+            left - 1,
+            climbed + 1,
+            narrow(kept, said),
+        );
     }
-    end_at(mark, climbed)
+    end_by(mark, kept, climbed)
 }

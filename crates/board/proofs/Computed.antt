@@ -19,7 +19,7 @@ use Rattle.mps.specs.Judge.{tableRules, tableRefusal, pointerRules, dumpRules, 
 use Rattle.mps.specs.Routes.{asked, matches, names, pair, pairsTo, routes, routesOf, wrongLine, lineRules, routeRefusal, routed, routesLeft}
 use Rattle.mps.specs.Slots.{namesSlot, isPci, pciBuses, onPci, wiredFrom, slotRoutes, slotRoutesOf, wrongSlot, slotRules, slotRefusal, slotRouted, slotRoutesLeft, slotNamed, slots, slotsOf, slotsRefusal, slotsListed, slotsLeft}
 use Rattle.mps.specs.Renumber.{shares, keptIds, free, lowestFree, numbersFrom, findsNone, heldIds, newNumbers, noneFree, usedNumbers, bitsSet, newNumbersOf, renumberRules, renumberRefusal, renumbered, renumberLeft}
-use Rattle.mps.specs.Addresses.{covers, touches, takesAway, adds, coversOrAdds, hasEntry, subtractive, says, climb, seenBy, wrongSpace, addressRules, seen}
+use Rattle.mps.specs.Addresses.{covers, touches, takesAway, adds, coversOrAdds, hasEntry, subtractive, says, another, others, claims, silent, leaves, climb, seenBy, wrongSpace, addressRules, seen}
 use Rattle.mps.specs.Listing.{digits, decimalDigit, hexDigit, decimalWidth, decimal, hex, line, unpadded, onOff, bootAp, interruptName, cpuLine, busLine, ioApicLine, interruptLine, baseLine, mapLine, treeLine, modLine, skipLine, extendedLine, defaultLine, pointerLine, tableLine, endLine, tableLines, listing, refusedLine, programOutput, listRefusal, listed, listLeft, printed, printLeft}
 use Rattle.mps.specs.Writing.{fieldsOf, partsOf, parted, header, extendedSumOf, baseSumOf, image, partRules, earlyRefusal, writeRefusal, written, finished, writeLeft}
 use Rattle.mps.specs.Edits.{standing, before, offsetOf, sealed, editedTable, noPlace, otherShape, changed, innerRefusal, editRules, editRefusal, edited, editLeft, run, runAnswers}
@@ -97,7 +97,7 @@ unfolding shares keptIds free lowestFree numbersFrom findsNone heldIds newNumber
 ofRenumber = 0
 
 ofAddresses : ℕ
-unfolding covers touches takesAway adds coversOrAdds hasEntry subtractive says climb seenBy wrongSpace addressRules seen
+unfolding covers touches takesAway adds coversOrAdds hasEntry subtractive says another others claims silent leaves climb seenBy wrongSpace addressRules seen
 ofAddresses = 0
 
 ofListing : ℕ

@@ -465,8 +465,8 @@ routes-slot-determined κ a x y s t p q = (p .0 ∙ sym (q .0), p .1 ∙ sym (q 
 
 -- ---- marks
 
-pub marks-gather-determined : Leaves marks-gather.Post (λ κ s. both (now (s .0)) (now (s .1 .0)))
-marks-gather-determined κ a x y s t p q = λ i. ((p .0 ∙ sym (q .0)) i, (p .1 ∙ sym (q .1)) i)
+pub marks-gather-determined : Leaves marks-gather.Post (λ κ s. both (now (s .0)) (both (now (s .1 .0)) (now (s .1 .1 .0))))
+marks-gather-determined κ a x y s t p q = λ i. ((p .0 ∙ sym (q .0)) i, ((p .1 .0 ∙ sym (q .1 .0)) i, (p .1 .1 ∙ sym (q .1 .1)) i))
 
 -- ---- addresses
 

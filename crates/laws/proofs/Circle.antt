@@ -35,7 +35,7 @@ unfolding parentsOf keep
 parentsOf-skip bus e ls h = rw (keep, h)
 
 -- A bus that has a link is among the links' buses, and its parent among their parents.
-link-among : (bus : ℕ) (ls : List Entry) → not (none (parentsOf ls bus)) ≡ true
+pub link-among : (bus : ℕ) (ls : List Entry) → not (none (parentsOf ls bus)) ≡ true
     → (among bus (each extendedBus ls) ≡ true) × (among (head bus (parentsOf ls bus)) (each parentBus ls) ≡ true)
 unfolding parentsOf keep each
 link-among bus [] l = absurd (false≢true l)

@@ -13,6 +13,7 @@ pub mod Rows
 pub mod Small
 pub mod Refusals
 pub mod Circle
+pub mod Claims
 pub mod Lent
 pub mod Counting
 pub mod Renumber

@@ -23,11 +23,11 @@ use Rattle.marks.specs.Marks.{mappingRank, linkRank, modifierRank, meani
 level : Bool → Bool → Bool → Bool → ℕ
 level a b c d = cond a 4 (cond b 3 (cond c 2 (cond d 1 0)))
 
-cond-most : (a : Bool) (n x : ℕ) → x ≤ n → cond a n x ≤ n
+pub cond-most : (a : Bool) (n x : ℕ) → x ≤ n → cond a n x ≤ n
 cond-most true n x h = omega arith
 cond-most false n x h = omega arith
 
-cond-max : (a b : Bool) (n x y : ℕ) → x ≤ n → y ≤ n → max (cond a n x) (cond b n y) ≡ cond (a || b) n (max x y)
+pub cond-max : (a b : Bool) (n x y : ℕ) → x ≤ n → y ≤ n → max (cond a n x) (cond b n y) ≡ cond (a || b) n (max x y)
 cond-max true true n x y h g = omega arith
 cond-max true false n x y h g = omega arith
 cond-max false true n x y h g = omega arith
@@ -48,10 +48,10 @@ level-none : 0 ≡ level false false false false
 unfolding level
 level-none = refl
 
--- The highest that entries say of a bus.
-highest : (Entry → ℕ) → ℕ → List Entry → ℕ
-highest rank bus [] = 0
-highest rank bus (e ∷ es) = max (cond (onBus bus e) (rank e) 0) (highest rank bus es)
+-- The highest that entries say of a bus, each of the one at its place.
+unfoldable pub highest : (Entry → ℕ) → (Entry → ℕ) → ℕ → List Entry → ℕ
+highest place rank bus [] = 0
+highest place rank bus (e ∷ es) = max (cond (eqb (place e) bus) (rank e) 0) (highest place rank bus es)
 
 -- What one entry says of its own bus, of whatever type it is.
 rankOf : ℕ → ℕ → Entry → ℕ
@@ -74,7 +74,7 @@ module _ (bus kind address : ℕ) where
 
   -- and what many say.
   level-highest : (es : List Entry)
-      → highest (rankOf kind address) bus es
+      → highest extendedBus (rankOf kind address) bus es
       ≡ level (any (takesAway bus kind address) es) (any (coversOrAdds bus kind address) es) (any linked es) (any (hasEntry bus) es)
   unfolding highest any said
   level-highest [] = level-none
@@ -90,7 +90,7 @@ meaning-level false false false true = refl
 meaning-level false false false false = refl
 
 -- What a bus says is what its highest entry says.
-says-highest : (es : List Entry) (bus kind address : ℕ) → meaning (highest (rankOf kind address) bus es) ≡ says es bus kind address
+says-highest : (es : List Entry) (bus kind address : ℕ) → meaning (highest extendedBus (rankOf kind address) bus es) ≡ says es bus kind address
 unfolding says links linked
 says-highest es bus kind address =
     rw (any-keep (subtractive bus) (ofType hierarchyType) es, level-highest bus kind address es)
@@ -124,7 +124,7 @@ module _ (kind address : ℕ) (e : Entry) where
 
 module _ (bus kind address : ℕ) where
   highest-keep : (rank : Entry → ℕ) (q : Entry → Bool) (e : Entry) (xs : List Entry) → (q e ≡ true → rank e ≡ rankOf kind address e)
-      → highest rank bus (keep q (e ∷ xs)) ≡ max (cond (q e) (said bus kind address e) 0) (highest rank bus (keep q xs))
+      → highest extendedBus rank bus (keep q (e ∷ xs)) ≡ max (cond (q e) (said bus kind address e) 0) (highest extendedBus rank bus (keep q xs))
   unfolding highest said
   highest-keep rank q e xs s = whether (q e) (λ t. rw (keep-in q e xs t, t, s t)) (λ f. rw (keep-out q e xs f, f) (omega arith))
 
@@ -150,9 +150,9 @@ max-spread h a b c x y z q = rw (q, max-four a x b y, max-four (max a b) (max x 
 
 -- Only entries of the three types say anything.
 highest-types : (bus kind address : ℕ) (xs : List Entry)
-    → highest (rankOf kind address) bus xs
-    ≡ max (max (highest (mappingRank kind address) bus (keep (ofType mappingType) xs)) (highest linkRank bus (keep (ofType hierarchyType) xs)))
-    (highest (modifierRank kind address) bus (keep (ofType modifierType) xs))
+    → highest extendedBus (rankOf kind address) bus xs
+    ≡ max (max (highest extendedBus (mappingRank kind address) bus (keep (ofType mappingType) xs)) (highest extendedBus linkRank bus (keep (ofType hierarchyType) xs)))
+    (highest extendedBus (modifierRank kind address) bus (keep (ofType modifierType) xs))
 unfolding highest keep said
 highest-types bus kind address [] = refl
 highest-types bus kind address (e ∷ xs) =
@@ -176,20 +176,20 @@ mark-set marks b r bus h =
     (λ o. rw o (getD-set-other marks b bus (max (byte marks b) r) 0 (λ q. eqb-false b bus o (sym q)) ∙ omega arith))
 
 -- The list of marks has the highest of what stood there and what the entries say.
-marked-byte : (rank : Entry → ℕ) (marks : List ℕ) (es : List Entry) (bus : ℕ) → bus < length marks
-    → byte (marked rank marks es) bus ≡ max (byte marks bus) (highest rank bus es)
+pub marked-byte : (place rank : Entry → ℕ) (marks : List ℕ) (es : List Entry) (bus : ℕ) → bus < length marks
+    → byte (marked place rank marks es) bus ≡ max (byte marks bus) (highest place rank bus es)
 unfolding marked highest
-marked-byte rank marks [] bus h = omega arith
-marked-byte rank marks (e ∷ es) bus h =
-    marked-byte rank (set marks (extendedBus e) (max (byte marks (extendedBus e)) (rank e))) es bus (rw length-set h)
-    ∙ rw (mark-set marks (extendedBus e) (rank e) bus h) (omega arith)
+marked-byte place rank marks [] bus h = omega arith
+marked-byte place rank marks (e ∷ es) bus h =
+    marked-byte place rank (set marks (place e) (max (byte marks (place e)) (rank e))) es bus (rw length-set h)
+    ∙ rw (mark-set marks (place e) (rank e) bus h) (omega arith)
 
-length-marked : (rank : Entry → ℕ) (marks : List ℕ) (es : List Entry) → length (marked rank marks es) ≡ length marks
+length-marked : (place rank : Entry → ℕ) (marks : List ℕ) (es : List Entry) → length (marked place rank marks es) ≡ length marks
 unfolding marked
-length-marked rank marks [] = refl
-length-marked rank marks (e ∷ es) = length-marked rank _ es ∙ length-set marks (extendedBus e) _
+length-marked place rank marks [] = refl
+length-marked place rank marks (e ∷ es) = length-marked place rank _ es ∙ length-set marks (place e) _
 
-max-none : (n : ℕ) → max 0 n ≡ n
+pub max-none : (n : ℕ) → max 0 n ≡ n
 max-none n = omega arith
 
 -- The marks of all three types, where nothing was marked, mean what the bus says.
@@ -199,14 +199,14 @@ pub marked-says : (kind address : ℕ) (marks : List ℕ) (xs : List Entry) (bus
 marked-says kind address marks xs bus h z =
     let maps = keep (ofType mappingType) xs in
     let ls = keep (ofType hierarchyType) xs in
-    let mapped = marked (mappingRank kind address) marks maps in
-    let linked = marked linkRank mapped ls in
-    let m = length-marked (mappingRank kind address) marks maps in
-    let l = length-marked linkRank mapped ls in
+    let mapped = marked extendedBus (mappingRank kind address) marks maps in
+    let linked = marked extendedBus linkRank mapped ls in
+    let m = length-marked extendedBus (mappingRank kind address) marks maps in
+    let l = length-marked extendedBus linkRank mapped ls in
     rw (
-      marked-byte (modifierRank kind address) linked (keep (ofType modifierType) xs) bus (omega (arith, h, m, l)),
-      marked-byte linkRank mapped ls bus (omega (arith, h, m)),
-      marked-byte (mappingRank kind address) marks maps bus h,
+      marked-byte extendedBus (modifierRank kind address) linked (keep (ofType modifierType) xs) bus (omega (arith, h, m, l)),
+      marked-byte extendedBus linkRank mapped ls bus (omega (arith, h, m)),
+      marked-byte extendedBus (mappingRank kind address) marks maps bus h,
       z,
       max-none,
       ← highest-types bus kind address xs,

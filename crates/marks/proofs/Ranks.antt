@@ -1,20 +1,21 @@
--- What the code gathers, entry by entry: the lists that an address lies in, what an entry says of its bus, and the steps
--- of the loops that put it, and the parents, to the buses. Assumes nothing.
-use Prim.Native.Nat.{ℕ, _+_, _-_, _*_, _/_, _%_, _≤_, _<_, max}
+-- What the code gathers, entry by entry: the lists that an address lies in, what an entry says of its bus, what a bus says to
+-- the others with its parent, and the steps of the loops that put these, and the parents, to the buses. Assumes nothing.
+use Prim.Native.Nat.{ℕ, zero, suc, _+_, _-_, _*_, _/_, _%_, _≤_, _<_, max}
 use mathlib.Core.Path.{_≡_, refl, sym, _∙_}
 use mathlib.Core.Bool.{Bool, true, false, cond, _||_, _&&_}
 use mathlib.Core.List.{List, _∷_}
 use native.Mathlib.Omega.{arith}
 use native.Mathlib.Nat.{div-one}
-use lib.ListN.{length, getD, set, take, drop}
+use lib.ListN.{length, getD, set, drop}
+use lib.Seq.{set-getD}
 use lib.Dec.{eqb, ltb}
 use borrow.Author.Tests.{lt-ltb, le-ltb, le-leb, lt-leb, eq-eqb, ne-eqb}
-use Rattle.mps.specs.Words.{bit, flag, part}
+use Rattle.mps.specs.Words.{bit, byte, flag, part}
 use Rattle.mps.specs.Ranges.{isa, vga, rangesAt, inList}
-use Rattle.mps.specs.Layout.{Entry, modifiedBelow, extendedBus, spaceKind, spaceBase, spaceLength, rangeList}
+use Rattle.mps.specs.Layout.{Entry, modifiedBelow, extendedBus, spaceKind, spaceBase, spaceLength, parentBus, rangeList}
 use Rattle.mps.specs.Sections.{rows}
 use Rattle.laws.proofs.Rows.{rows-done, rows-next, row-byte}
-use Rattle.marks.specs.Marks.{mappingRank, linkRank, modifierRank, marked, parented, listsAt}
+use Rattle.marks.specs.Marks.{mappingRank, linkRank, modifierRank, marked, parented, saidBeside, saidBelow, listsAt}
 
 -- ---- The lists that an address lies in
 
@@ -126,35 +127,69 @@ module _ (e : Entry) where
     unfolding modifierRank
     modifier-none g = rw (← f, ← w, g)
 
+-- Where nothing is said, what stands there stays.
+pub raise-same : (marks : List ℕ) (at said : ℕ) → said ≡ 0 → marks ≡ set marks at (max (getD marks at 0) said)
+raise-same marks at said z =
+    let m : max (getD marks at 0) said ≡ getD marks at 0 = omega arith in
+    rw m (sym (set-getD marks at 0))
+
+-- What a bus says to the others with its parent: neither silent nor seeing, nothing.
+pub beside-free : (mark : ℕ) → (mark ≡ 0 → ⊥) → (mark ≡ 3 → ⊥) → 0 ≡ saidBeside mark
+beside-free zero n m = absurd (n refl)
+beside-free (suc zero) n m = refl
+beside-free (suc (suc zero)) n m = refl
+beside-free (suc (suc (suc zero))) n m = absurd (m refl)
+beside-free (suc (suc (suc (suc mark)))) n m = refl
+
 -- ---- Steps of the loops over the rows: nothing whole is left, or the row there is put to its bus
 
 module _ (n : ℕ) (s : List ℕ) (at : ℕ) (h : at ≤ length s) where
   module _ (f : length s - at < n) where
-    pub marked-done : (rank : Entry → ℕ) (marks : List ℕ) → marked rank marks (rows n (drop at s)) ≡ marks
+    pub marked-done : (place rank : Entry → ℕ) (marks : List ℕ) → marked place rank marks (rows n (drop at s)) ≡ marks
     unfolding marked
-    marked-done rank marks = rw (rows-done n s at h f)
+    marked-done place rank marks = rw (rows-done n s at h f)
 
     pub parented-done : (parents : List ℕ) → parented parents (rows n (drop at s)) ≡ parents
     unfolding parented
     parented-done parents = rw (rows-done n s at h f)
 
-  module _ (z : 8 ≤ n) (f : n ≤ length s - at) (bus : ℕ) (b : bus ≡ getD s (at + 2) 0) where
-    row-there : rows n (drop at s) ≡ take n (drop at s) ∷ rows n (drop (at + n) s)
-    row-there = rows-next n s at (omega arith) h f
+  module _ (z : 8 ≤ n) (f : n ≤ length s - at) where
+    row : Entry
+    row = part at (at + n) s
 
-    row-bus : extendedBus (take n (drop at s)) ≡ bus
-    row-bus = row-byte n s at 2 (omega arith) ∙ sym b
-
-    pub marked-next :
-        (rank : Entry → ℕ) (marks : List ℕ) (said mark : ℕ) → said ≡ rank (part at (at + n) s)
-        → mark ≡ max (getD marks bus 0) said
-        → marked rank marks (rows n (drop at s)) ≡ marked rank (set marks bus mark) (rows n (drop (at + n) s))
-    unfolding marked
-    marked-next rank marks said mark e g =
+    row-there : rows n (drop at s) ≡ row ∷ rows n (drop (at + n) s)
+    unfolding row
+    row-there =
         let width : at + n - at ≡ n = omega arith in
-        rw (row-there, marked, row-bus, g, e, width)
+        rw width (rows-next n s at (omega arith) h f)
 
-    pub parented-next : (parents : List ℕ)
+    row-byte-at : (i : ℕ) → i < 8 → getD row i 0 ≡ getD s (at + i) 0
+    unfolding row
+    row-byte-at i l =
+        let width : at + n - at ≡ n = omega arith in
+        rw width (row-byte n s at i (omega arith))
+
+    -- What a row says is put to the bus at the place that it names: its own, or its parent.
+    module _ (place rank : Entry → ℕ) (marks : List ℕ) (bus said mark : ℕ) (e : said ≡ rank row) (g : mark ≡ max (getD marks bus 0) said) where
+      marked-row : place row ≡ bus
+          → marked place rank marks (rows n (drop at s)) ≡ marked place rank (set marks bus mark) (rows n (drop (at + n) s))
+      unfolding marked
+      marked-row b = rw (row-there, marked, b, g, e)
+
+    pub marked-next : (rank : Entry → ℕ) (marks : List ℕ) (bus said mark : ℕ) → bus ≡ getD s (at + 2) 0
+        → said ≡ rank (part at (at + n) s) → mark ≡ max (getD marks bus 0) said
+        → marked extendedBus rank marks (rows n (drop at s)) ≡ marked extendedBus rank (set marks bus mark) (rows n (drop (at + n) s))
+    unfolding row
+    marked-next rank marks bus said mark b e g = marked-row extendedBus rank marks bus said mark e g (row-byte-at 2 (omega arith) ∙ sym b)
+
+    pub parented-next : (parents : List ℕ) (bus : ℕ) → bus ≡ getD s (at + 2) 0
         → parented parents (rows n (drop at s)) ≡ parented (set parents bus (getD s (at + 4) 0)) (rows n (drop (at + n) s))
     unfolding parented
-    parented-next parents = rw (row-there, parented, row-bus, row-byte n s at 4 (omega arith))
+    parented-next parents bus b = rw (row-there, parented, row-byte-at 2 (omega arith), ← b, row-byte-at 4 (omega arith))
+
+    pub below-next : (marks below after : List ℕ) (bus up said : ℕ) → bus ≡ getD s (at + 2) 0 → up ≡ getD s (at + 4) 0
+        → said ≡ saidBeside (getD marks bus 0) → after ≡ set below up (max (getD below up 0) said)
+        → saidBelow marks below (rows n (drop at s)) ≡ saidBelow marks after (rows n (drop (at + n) s))
+    below-next marks below after bus up said b u e g =
+        rw g (marked-row parentBus (λ r. saidBeside (byte marks (extendedBus r))) below up said _
+        (e ∙ rw (row-byte-at 2 (omega arith), ← b)) refl (row-byte-at 4 (omega arith) ∙ sym u))

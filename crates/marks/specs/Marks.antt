@@ -1,5 +1,6 @@
--- What each bus says of an address, as the code gathers it: one number for each bus, and its parent beside. That the number
--- is what mps's `says` says is proved: proofs/Marks.antt.
+-- What each bus says of an address, as the code gathers it: one number for each bus, and its parent beside; and what the buses
+-- below it say. That the number is what mps's `says` says is proved in proofs/Marks.antt, and that what is said below is what
+-- the others with that parent say in proofs/Below.antt.
 use Prim.Native.Nat.{ℕ, zero, suc, _+_, max}
 use mathlib.Core.Bool.{cond, _&&_}
 use mathlib.Core.List.{List, [], _∷_}
@@ -32,20 +33,34 @@ meaning (suc (suc zero)) = Say.parent
 meaning (suc (suc (suc zero))) = Say.yes
 meaning (suc (suc (suc (suc n)))) = Say.no
 
--- A list that has a number for each bus, with what entries say put in.
-unfoldable pub marked : (Entry → ℕ) → List ℕ → List Entry → List ℕ
-marked rank marks [] = marks
-marked rank marks (e ∷ es) = marked rank (set marks (extendedBus e) (max (byte marks (extendedBus e)) (rank e))) es
+-- A list that has a number for each bus, with what entries say put in: at their own bus, or at its parent.
+unfoldable pub marked : (Entry → ℕ) → (Entry → ℕ) → List ℕ → List Entry → List ℕ
+marked place rank marks [] = marks
+marked place rank marks (e ∷ es) = marked place rank (set marks (place e) (max (byte marks (place e)) (rank e))) es
 
 -- What the entries of the three types say, mappings, links and modifiers.
 abbrev pub allMarked : ℕ → ℕ → List ℕ → List Entry → List Entry → List Entry → List ℕ
 allMarked kind address marks maps links mods =
-    marked (modifierRank kind address) (marked linkRank (marked (mappingRank kind address) marks maps) links) mods
+    marked extendedBus (modifierRank kind address)
+    (marked extendedBus linkRank (marked extendedBus (mappingRank kind address) marks maps) links) mods
 
 -- A list that has a parent for each bus, with the links put in.
 unfoldable pub parented : List ℕ → List Entry → List ℕ
 parented parents [] = parents
 parented parents (e ∷ ls) = parented (set parents (extendedBus e) (parentBus e)) ls
+
+-- What a bus says to the others with its parent, by its mark: 2 that it claims the address, 1 that it is silent, 0
+-- neither.
+abbrev pub saidBeside : ℕ → ℕ
+saidBeside zero = 1
+saidBeside (suc zero) = 0
+saidBeside (suc (suc zero)) = 0
+saidBeside (suc (suc (suc zero))) = 2
+saidBeside (suc (suc (suc (suc n)))) = 0
+
+-- A list that has for each bus the highest of what those with it as parent say, by their marks, with the links put in.
+abbrev pub saidBelow : List ℕ → List ℕ → List Entry → List ℕ
+saidBelow marks = marked parentBus (λ e. saidBeside (byte marks (extendedBus e)))
 
 -- Nothing for any of the 256 buses.
 abbrev pub nothing : List ℕ

@@ -11,6 +11,7 @@ pub mod SlotCodes
 pub mod SlotList
 pub mod Renumber
 pub mod Addresses
+pub mod Unclaimed
 pub mod Headers
 pub mod Again
 pub mod Edits

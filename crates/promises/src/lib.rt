@@ -3,7 +3,8 @@
 // contracts in `contracts`.
 //
 // specs/ states what they speak of beside the definitions of mps: the numbers that each call may give (Numbered), the routes
-// that a table declares (Declared), the links that an answer has climbed (Climbed), the fields that a listing shows and how
+// that a table declares (Declared), the links that an answer has climbed, and the answer of before ask 5
+// (Climbed), the fields that a listing shows and how
 // they are read again (Shown), what a run of edits makes (Runs), PCI slots and their order (Slots), which number is the lowest
 // free (Renumber), which I/O APICs are wrong (IoApics), a good book row by row (GoodBooks), and the rows that a run of saves
 // and restores adds (Books). proofs/ has
@@ -17,4 +18,5 @@
 // - of document 02: the input of a PCI slot (Slots, SlotRoutes) and the listing of slots (SlotList, over SlotCodes); the new
 //   numbers of I/O APICs (Renumber), and when 16 is given (IoApics); of the book of earlier tables each number "given exactly
 //   when" (BookNumbers), which book is bad and how editions run (GoodBooks), that nothing is lost over any run (Books), and
-//   what is read of it: bodies, what a restore brings back (BookReads).
+//   what is read of it: bodies, what a restore brings back (BookReads); what a bus sees through its parent, and what of that
+//   is as before (Unclaimed).

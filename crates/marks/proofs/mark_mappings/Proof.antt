@@ -5,7 +5,7 @@ use mathlib.Core.Path.{_≡_, refl, sym, _∙_}
 use native.Mathlib.Omega.{arith}
 use lib.ListN.{length, drop}
 use borrow.Author.Needs.{needs}
-use Rattle.mps.specs.Layout.{mappingSize}
+use Rattle.mps.specs.Layout.{mappingSize, extendedBus}
 use Rattle.mps.specs.Sections.{rows}
 use Rattle.marks.specs.Marks.{mappingRank, marked}
 use Rattle.marks.proofs.Ranks.{marked-done, marked-next}
@@ -14,7 +14,7 @@ use Rattle.marks.proofs.mark_mappings.Tie as tie
 
 abbrev Inv-loop : tie.InvT-loop
 Inv-loop marks₀ s kind address at₀ marks at =
-    (marked (mappingRank kind address) marks (rows mappingSize (drop at s)) ≡ marked (mappingRank kind address) marks₀ (rows mappingSize s))
+    (marked extendedBus (mappingRank kind address) marks (rows mappingSize (drop at s)) ≡ marked extendedBus (mappingRank kind address) marks₀ (rows mappingSize s))
     × (at ≤ length s)
 
 abbrev μ-loop : tie.MeasureT-loop
@@ -29,15 +29,15 @@ loop-again c =
     let a = c .before .before .before .before .before .before .before .before .before .args in
     let w = c .before .before .before .before .wide in
     let r = c .before .before .mapping-rank in
-    let next = marked-next mappingSize (a .s .now) (l .at) (omega arith) (omega arith) (omega arith) (w .result) (w .ensures .0)
-    (mappingRank (a .kind) (a .address)) (l .marks) (r .result) (c .higher .result) (r .ensures) (c .higher .ensures) in
+    let next = marked-next mappingSize (a .s .now) (l .at) (omega arith) (omega arith) (omega arith)
+    (mappingRank (a .kind) (a .address)) (l .marks) (w .result) (r .result) (c .higher .result) (w .ensures .0) (r .ensures) (c .higher .ensures) in
     (sym next ∙ l .inv .0, omega arith)
 
 returns : tie.Need-returns Inv-loop μ-loop
 returns c =
     let l = c .before .loop in
     let a = c .before .before .before .args in
-    sym (marked-done mappingSize (a .s .now) (l .at) (omega arith) (omega arith) (mappingRank (a .kind) (a .address)) (l .marks))
+    sym (marked-done mappingSize (a .s .now) (l .at) (omega arith) (omega arith) extendedBus (mappingRank (a .kind) (a .address)) (l .marks))
     ∙ l .inv .0
 
 pub mark-mappings-spec : {M : Type 1} → statement M

@@ -5,7 +5,7 @@ use mathlib.Core.Path.{_≡_, refl, sym, _∙_}
 use native.Mathlib.Omega.{arith}
 use lib.ListN.{length, drop}
 use borrow.Author.Needs.{needs}
-use Rattle.mps.specs.Layout.{linkSize}
+use Rattle.mps.specs.Layout.{linkSize, extendedBus}
 use Rattle.mps.specs.Sections.{rows}
 use Rattle.marks.specs.Marks.{modifierRank, marked}
 use Rattle.marks.proofs.Ranks.{marked-done, marked-next}
@@ -14,7 +14,7 @@ use Rattle.marks.proofs.mark_modifiers.Tie as tie
 
 abbrev Inv-loop : tie.InvT-loop
 Inv-loop marks₀ s kind address lists at₀ marks at =
-    (marked (modifierRank kind address) marks (rows linkSize (drop at s)) ≡ marked (modifierRank kind address) marks₀ (rows linkSize s))
+    (marked extendedBus (modifierRank kind address) marks (rows linkSize (drop at s)) ≡ marked extendedBus (modifierRank kind address) marks₀ (rows linkSize s))
     × (at ≤ length s)
 
 abbrev μ-loop : tie.MeasureT-loop
@@ -30,15 +30,15 @@ loop-again c =
     let lists = c .before .before .before .before .before .before .before .before .lists .ensures in
     let w = c .before .before .before .before .wide in
     let r = c .before .before .modifier-rank in
-    let next = marked-next linkSize (a .s .now) (l .at) (omega arith) (omega arith) (omega arith) (w .result) (w .ensures .0)
-    (modifierRank (a .kind) (a .address)) (l .marks) (r .result) (c .higher .result) (r .ensures _ _ lists) (c .higher .ensures) in
+    let next = marked-next linkSize (a .s .now) (l .at) (omega arith) (omega arith) (omega arith)
+    (modifierRank (a .kind) (a .address)) (l .marks) (w .result) (r .result) (c .higher .result) (w .ensures .0) (r .ensures _ _ lists) (c .higher .ensures) in
     (sym next ∙ l .inv .0, omega arith)
 
 returns : tie.Need-returns Inv-loop μ-loop
 returns c =
     let l = c .before .loop in
     let a = c .before .before .before .before .args in
-    sym (marked-done linkSize (a .s .now) (l .at) (omega arith) (omega arith) (modifierRank (a .kind) (a .address)) (l .marks))
+    sym (marked-done linkSize (a .s .now) (l .at) (omega arith) (omega arith) extendedBus (modifierRank (a .kind) (a .address)) (l .marks))
     ∙ l .inv .0
 
 pub mark-modifiers-spec : {M : Type 1} → statement M
