@@ -46,6 +46,8 @@ int sees(const struct call *call)
 
     if (refused(answer))
         return REFUSAL;
-    printf("%s, %u link%s climbed\n", seen[ruxtajma_seen(answer)], links, links == 1 ? "" : "s");
+    printf("%s, %u link%s climbed", seen[ruxtajma_seen(answer)], links, links == 1 ? "" : "s");
+    tell_in_the_way(table, bus, kind, address, answer);
+    putchar('\n');
     return ANSWER;
 }

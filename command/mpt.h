@@ -2,9 +2,10 @@
  * mpt: the command at the bench, over the proved library (include/ruxtajma.h).
  * It carries bytes between people, files and the library's calls, and decides nothing
  * about tables and books: every answer, refusal and changed byte is a call's.  Its own are
- * three: the three bytes of an empty book, that what stands behind a book in its file is
- * moved behind the new one, and what differs between two tables, by the bytes of their
- * entries.  A process serves one call of the command and ends, so nothing is freed.
+ * four: the three bytes of an empty book, that what stands behind a book in its file is
+ * moved behind the new one, what differs between two tables, by the bytes of their
+ * entries, and which bus is in another's way, by what the call answers of each.  A process
+ * serves one call of the command and ends, so nothing is freed.
  */
 #ifndef MPT_H
 #define MPT_H
@@ -140,6 +141,9 @@ typedef uint64_t query(const uint8_t *table, size_t length, uint8_t, uint8_t, ui
                        uint8_t *room, size_t room_length);
 int ask(query *asked, const char *apic, struct bytes table, const uint8_t about[3],
         const char *between, const char *none);
+
+/* why.c: the bus in the way of one that does not see an address. */
+void tell_in_the_way(struct bytes file, uint8_t bus, uint8_t kind, uint64_t address, uint64_t answer);
 
 /* fields.c: an entry with some of its fields set. */
 struct bytes with_fields(struct bytes entry, const struct call *call);

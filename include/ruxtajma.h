@@ -239,6 +239,19 @@ static inline size_t ruxtajma_used(uint64_t answer)
  * Whether a bus sees an address of a kind (0 I/O, 1 memory, 2 prefetch).  5 to 18
  * or 24; or ruxtajma_seen(), one of the three, and ruxtajma_links() of how many
  * links to parents were climbed.  Writes nothing.
+ *
+ * The first that applies: no, if a modifier takes it away; yes, if a 128 entry of
+ * that kind covers it or a modifier adds it; the parent's answer, if the bus has
+ * the subtractive bit; no, if it has any 128 or 130 entry; else undeclared.  But
+ * when the parent answers yes, the answer is no if another bus with that parent
+ * declares or adds the address and does not take it away; undeclared if none does
+ * but some other such bus has neither a 128 nor a 130 entry and no subtractive
+ * bit; else yes.  The links are those climbed, whichever of these it is.
+ *
+ * So who is in the way can be asked, too: of a listed bus of an accepted table and
+ * a kind 0 to 2, yes with 0 links is given exactly when the bus declares or adds
+ * the address and does not take it away, and undeclared with 0 links exactly when
+ * it has neither a 128 nor a 130 entry and no subtractive bit.
  */
 uint64_t ruxtajma_address(const uint8_t *table, size_t table_length,
                           uint8_t bus, uint8_t kind, uint64_t address);

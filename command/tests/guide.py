@@ -41,7 +41,8 @@ class Guide(harness.Case):
         super().setUp()
         if not harness.NATIVE:
             self.skipTest("the guide's commands start the command directly")
-        (self.folder / "shelf").symlink_to(harness.ROOT / "shelf")
+        for name in ("shelf", "examples"):
+            (self.folder / name).symlink_to(harness.ROOT / name)
         (self.folder / "mpt").symlink_to(harness.command)
         # What the reader has from a board: its memory, and pieces of it.
         board = (harness.ROOT / "shelf/made-bench-board.dump").read_bytes()[10:]
