@@ -6,6 +6,7 @@
 
 struct draft;   /* draft.h */
 struct fault;   /* faults.h */
+struct address_query;
 
 /* ---- tables, for judges ---- */
 
@@ -54,6 +55,12 @@ void rich_case(struct rng *r, struct test_case *c);
 
 /* A chain of parents, of up to 256 buses. */
 void chain_case(struct rng *r, struct test_case *c);
+
+/*
+ * Buses that share their parents, up to 255 one; and a question about them, whose
+ * answer is known from how the table was built.
+ */
+void family_case(struct rng *r, struct test_case *c, struct address_query *q);
 
 /* An address where one of the paper's ranges begins or ends, or beside that. */
 uint64_t edge_address(struct rng *r);
@@ -216,6 +223,9 @@ struct asked {
     /* The extended entries of each bus, as places from 1: its last one, and */
     uint16_t last[256];
     uint16_t before[PART_LIMIT];   /* the one before each, 0 where none is */
+
+    /* And the links to each parent: the last, and the one before each. */
+    uint16_t below[256], beside[PART_LIMIT];
 };
 
 struct route_query {
@@ -234,10 +244,17 @@ struct address_query {
     int expected;              /* 0, 5 to 18, 24, or -1 */
     enum seen seen;            /* where it is 0: the answer, and the climb */
     unsigned links;
+
+    /* Where the climb ended at a yes: the link that made it something else, */
+    unsigned amended;          /* from 1 at the asked bus; 0 where none did; */
+    bool shared;               /* and whether one of its parents has other children */
 };
 
-/* A table of any kind, mostly one that has much to say. */
-void gen_asked(struct rng *r, struct test_case *c);
+/*
+ * A table of any kind, mostly one that has much to say.  True where it was built
+ * around a question: then q is that, with the answer.
+ */
+bool gen_asked(struct rng *r, struct test_case *c, struct address_query *q);
 
 /* Before the questions about a table; accepted is what its judge says. */
 void start_queries(struct asked *a, const struct test_case *c, bool accepted);
@@ -245,6 +262,9 @@ void start_queries(struct asked *a, const struct test_case *c, bool accepted);
 /* Questions mostly about what the table's own entries say. */
 void gen_route_query(struct rng *r, struct asked *a, struct route_query *q);
 void gen_address_query(struct rng *r, struct asked *a, struct address_query *q);
+
+/* The same question about another bus. */
+void ask_another(struct rng *r, struct asked *a, struct address_query *q);
 
 /* Work out what is to be answered, word by word from the paper. */
 void expect_routes(struct asked *a, struct route_query *q);

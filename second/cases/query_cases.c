@@ -12,16 +12,20 @@ static size_t least(size_t a, size_t b)
     return a < b ? a : b;
 }
 
-void gen_asked(struct rng *r, struct test_case *c)
+bool gen_asked(struct rng *r, struct test_case *c, struct address_query *q)
 {
     uint32_t roll = rng_below(r, 100);
+    bool built = roll < 20;
 
-    if (roll < 40)
+    if (built)
+        family_case(r, c, q);
+    else if (roll < 54)
         rich_case(r, c);
-    else if (roll < 60)
+    else if (roll < 66)
         chain_case(r, c);
     else
         gen_case(r, c);
+    return built;
 }
 
 static bool is_pci(const uint8_t *e) { return memcmp(e + 2, "PCI   ", 6) == 0; }
@@ -50,12 +54,22 @@ void start_queries(struct asked *a, const struct test_case *c, bool accepted)
             a->before[e - b->ext] = a->last[e[2]];
             a->last[e[2]] = (uint16_t)(e - b->ext + 1);
         }
+    memset(a->below, 0, sizeof a->below);
+    EACH(b, 129, e) {
+        a->beside[e - b->ext] = a->below[e[4]];
+        a->below[e[4]] = (uint16_t)(e - b->ext + 1);
+    }
 }
 
 /* The extended entries of one bus, backwards. */
 #define EACH_OF_BUS(a, bus, e) \
     for (const uint8_t *e = entry_at(a, (a)->last[bus]); e != NULL; \
          e = entry_at(a, (a)->before[e - (a)->b.ext]))
+
+/* The links to a parent, backwards. */
+#define EACH_BELOW(a, parent, e) \
+    for (const uint8_t *e = entry_at(a, (a)->below[parent]); e != NULL; \
+         e = entry_at(a, (a)->beside[e - (a)->b.ext]))
 
 static const uint8_t *entry_at(const struct asked *a, uint16_t place)
 {
@@ -162,6 +176,30 @@ static bool declared(const struct asked *a, uint8_t bus)
     return false;
 }
 
+/* "When the parent answers yes, the answer is" that. */
+static enum seen left_over(const struct asked *a, struct address_query *q,
+                           uint8_t bus, uint8_t parent)
+{
+    bool silent = false;
+
+    EACH_BELOW(a, parent, e) {
+        uint8_t other = e[2];
+
+        if (other == bus)
+            continue;
+        q->shared = true;
+        /* "No if another bus ... declares or adds ... and doesn't take it away" */
+        if ((covered(a, q, other) || modified(a, q, other, 0))
+            && !modified(a, q, other, 1))
+            return NO;
+        /* "Neither 128 nor 130 entry and no subtractive bit" */
+        if (!declared(a, other) && !(e[3] & 1))
+            silent = true;
+    }
+    /* "Undeclared if none does but some other such bus ...; else yes" */
+    return silent ? UNDECLARED : YES;
+}
+
 /* The answer of a bus that is so many links up. */
 static void answer_of(const struct asked *a, struct address_query *q, uint8_t bus,
                       unsigned links)
@@ -169,19 +207,26 @@ static void answer_of(const struct asked *a, struct address_query *q, uint8_t bu
     uint8_t parent = 0;
 
     q->links = links;
-    if (modified(a, q, bus, 1))
+    if (modified(a, q, bus, 1)) {
         q->seen = NO;
-    else if (covered(a, q, bus) || modified(a, q, bus, 0))
+    } else if (covered(a, q, bus) || modified(a, q, bus, 0)) {
         q->seen = YES;
-    else if (subtractive(a, bus, &parent))
+    } else if (subtractive(a, bus, &parent)) {
         answer_of(a, q, parent, links + 1);
-    else
+        if (q->seen == YES) {
+            q->seen = left_over(a, q, bus, parent);
+            q->amended = q->seen == YES ? 0 : links + 1;
+        }
+    } else {
         q->seen = declared(a, bus) ? NO : UNDECLARED;
+    }
 }
 
 void expect_address(struct asked *a, struct address_query *q)
 {
     q->expected = expect_number(a, q->bus, q->kind, 2);
+    q->amended = 0;
+    q->shared = false;
     if (q->expected == 0)
         answer_of(a, q, q->bus, 0);
 }
@@ -267,6 +312,37 @@ static void start_low(struct rng *r, struct asked *a, uint8_t *bus)
             *bus = e[2];
 }
 
+/* From a bus down, as long as there are some below and so it falls out. */
+static uint8_t walk_down(struct rng *r, const struct asked *a, uint8_t bus)
+{
+    do {
+        uint32_t n = 0;
+        uint8_t from = bus;
+
+        EACH_BELOW(a, from, e)
+            if (rng_below(r, ++n) == 0)
+                bus = e[2];
+        if (n == 0)
+            break;
+    } while (rng_chance(r, 60));
+    return bus;
+}
+
+/* Where a mapping is, seen from below its bus. */
+static void ask_below(struct rng *r, const struct asked *a, const uint8_t *mapping,
+                      struct address_query *q)
+{
+    q->kind = mapping[3];
+    q->address = range_address(r, mapping);
+    q->bus = walk_down(r, a, mapping[2]);
+}
+
+void ask_another(struct rng *r, struct asked *a, struct address_query *q)
+{
+    q->bus = listed_bus(r, a);
+    expect_address(a, q);
+}
+
 void gen_address_query(struct rng *r, struct asked *a, struct address_query *q)
 {
     const uint8_t *mapping = pick(r, &a->b, 128, any);
@@ -282,6 +358,8 @@ void gen_address_query(struct rng *r, struct asked *a, struct address_query *q)
         q->bus = e[2];
     if (rng_chance(r, 40))
         start_low(r, a, &q->bus);
+    if (a->refusal == 0 && mapping != NULL && rng_chance(r, 25))
+        ask_below(r, a, mapping, q);
     spoil(r, a, &q->bus, &q->kind, 2);
     expect_address(a, q);
 }

@@ -3,14 +3,17 @@
 
 void gen_case(struct rng *r, struct test_case *c)
 {
+    struct address_query unasked;
     uint32_t roll = rng_below(r, 100);
 
     if (roll < 35)
         sound_case(r, c);
-    else if (roll < 48)
+    else if (roll < 47)
         rich_case(r, c);
-    else if (roll < 54)
+    else if (roll < 51)
         chain_case(r, c);
+    else if (roll < 54)
+        family_case(r, c, &unasked);
     else if (roll < 77)
         fault_case(r, random_fault(r), c);
     else if (roll < 83)

@@ -23,6 +23,14 @@ static number pairs[5];    /* 0, 1, up to 10, to 255, more */
 static number values[3];   /* no, yes, undeclared */
 static number links[5];    /* 0, 1, up to 10, to 254, 255 */
 
+/*
+ * A parent's yes: kept, where no parent on the way has other children and where one
+ * has; made no or undeclared at the first link from the asked bus on, at one
+ * between, and at the last of several.
+ */
+static number kept[5];
+static number amended[3];  /* to no, -, to undeclared */
+
 static const struct test_case *table;
 static struct asked asked;
 
@@ -104,6 +112,12 @@ static void test_seen(const struct address_query *q, uint64_t answer)
          && n == q->links && n < asked.buses.n, "another answer than expected");
     values[q->seen]++;
     links[n < 2 ? n : n <= 10 ? 2 : n < 255 ? 3 : 4]++;
+    if (q->amended > 0) {
+        kept[q->amended == 1 ? 2 : q->amended < n ? 3 : 4]++;
+        amended[q->seen]++;
+    } else if (q->seen == YES && n > 0) {
+        kept[q->shared]++;
+    }
 }
 
 void ask_address(const struct address_query *q)
@@ -119,15 +133,33 @@ void ask_address(const struct address_query *q)
         test_seen(q, o->a.value[0]);
 }
 
+/* What a table was built around: the same must be worked out from its entries. */
+static void ask_built(struct rng *r, const struct address_query *built)
+{
+    struct address_query q = *built;
+
+    expect_address(&asked, &q);
+    if (q.expected != built->expected || q.seen != built->seen
+        || q.links != built->links)
+        fail_case("another answer is worked out than the table was built for");
+    ask_address(&q);
+    ask_another(r, &asked, &q);
+    ask_address(&q);
+}
+
 /* ---- all of them ---- */
 
-static void ask_all(struct rng *r, const struct test_case *c)
+static void ask_all(struct rng *r)
 {
+    static struct test_case c;
     static struct route_query route;
-    static struct address_query address;
+    struct address_query address;
+    bool built = gen_asked(r, &c, &address);
 
-    ask_table(c);
+    ask_table(&c);
     asked_tables++;
+    if (built)
+        ask_built(r, &address);
     gen_route_query(r, &asked, &route);
     ask_routes(r, &route);
     for (int n = asked.refusal == 0 ? 2 : 1; n > 0; n--) {
@@ -146,6 +178,10 @@ static void report_queries(number count)
 {
     static const char *const some_pairs[5] = { "0", "1", "2-10", "11-255", "more" };
     static const char *const some_links[5] = { "0", "1", "2-10", "11-254", "255" };
+    static const char *const whose[5] = {
+        "kept alone", "kept beside others", "amended at the first link", "between",
+        "at the last",
+    };
 
     printf("routes, %llu questions:\n  0: %llu\n", routed.cases,
            routed.answered[0]);
@@ -161,12 +197,15 @@ static void report_queries(number count)
         require("no, yes or undeclared", values[k], count / 10);
     report_asked(&addressed, count);
     report_classes("links", some_links, links, count);
+    report_classes("a parent's yes", whose, kept, count);
+    printf("amended: %llu to no, %llu to undeclared\n", amended[NO],
+           amended[UNDECLARED]);
+    for (int k = 0; k < 3; k += 2)
+        require("a parent's yes amended", amended[k], count / 20);
 }
 
 void queries(struct rng *r, number count, const char *seed)
 {
-    static struct test_case c;
-
     fixed_queries(r);
     number fixed = routed.cases + addressed.cases;
     routed = addressed = (struct tally){ 0 };
@@ -174,10 +213,10 @@ void queries(struct rng *r, number count, const char *seed)
     memset(pairs, 0, sizeof pairs);
     memset(values, 0, sizeof values);
     memset(links, 0, sizeof links);
-    while (asked_tables < count) {
-        gen_asked(r, &c);
-        ask_all(r, &c);
-    }
+    memset(kept, 0, sizeof kept);
+    memset(amended, 0, sizeof amended);
+    while (asked_tables < count)
+        ask_all(r);
     printf("queries: %llu fixed, %llu generated about %llu tables, seed %s: no "
            "difference\n", fixed, routed.cases + addressed.cases, asked_tables,
            seed);

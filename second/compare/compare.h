@@ -44,6 +44,9 @@ void route_in_every_room(const struct route_query *q, size_t most);
 /* The bench board, addresses of both lists, long climbs, and others. */
 void fixed_queries(struct rng *r);
 
+/* Of these, addresses that buses with the same parent have between them. */
+void fixed_families(void);
+
 /* A table; the questions that follow are about its slots, or others about it. */
 struct asked *slot_table(const struct test_case *c);
 

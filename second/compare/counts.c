@@ -24,7 +24,7 @@ void count_call(unsigned refusal)
 /* ---- what stood in the tables ---- */
 
 enum feature {
-    SOUND, ALL_TYPES, CPU_OFF, APIC_OFF, SHARED_ID, TO_ALL, CHAIN, UNKNOWN,
+    SOUND, ALL_TYPES, CPU_OFF, APIC_OFF, SHARED_ID, TO_ALL, CHAIN, FAMILY, UNKNOWN,
     BASE_FULL, EXT_FULL,
     BASE_44, BASE_4096, BASE_4097, EXT_4096, EXT_4097, FEATURES
 };
@@ -37,6 +37,7 @@ static const char *const named[FEATURES] = {
     [SHARED_ID] = "an I/O APIC on with the ID of a processor on",
     [TO_ALL] = "destination 255",
     [CHAIN] = "3 links to parents in a row",
+    [FAMILY] = "100 links to one parent",
     [UNKNOWN] = "unknown extended types",
     [BASE_FULL] = "a base of 4,096",
     [EXT_FULL] = "an extended part of 4,096",
@@ -74,6 +75,16 @@ static bool has_chain(struct builder *b, int links)
         if (n == links)
             return true;
     }
+    return false;
+}
+
+static bool has_family(struct builder *b, unsigned links)
+{
+    unsigned below[256] = { 0 };
+
+    EACH(b, 129, e)
+        if (++below[e[4]] == links)
+            return true;
     return false;
 }
 
@@ -122,6 +133,7 @@ static void note_sound(const uint8_t *bytes)
     noted[SHARED_ID] += has_shared_id(&b);
     noted[TO_ALL] += has(&b, 3, to_all) || has(&b, 4, to_all);
     noted[CHAIN] += has_chain(&b, 3);
+    noted[FAMILY] += has_family(&b, 100);
     noted[UNKNOWN] += has_unknown(&b);
     noted[BASE_FULL] += base_of(bytes) == PART_LIMIT;
     noted[EXT_FULL] += ext_of(bytes) == PART_LIMIT;

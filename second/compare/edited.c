@@ -304,6 +304,22 @@ static void extended_bus(void)
     check_byte("bus ID twice", 5, 1, 0, 23 + 256 * 15);
 }
 
+/* Kind, range and list have a bus's number, but name none. */
+static void unnamed_bus(void)
+{
+    struct builder b;
+
+    small_board(&b);
+    add_bus(&b, 1, "PCI   ");
+    add_bus(&b, 2, "PCI   ");
+    add_mapping(&b, 2, 1, 0, 1);
+    add_modifier(&b, 2, 0, 0);
+    add_modifier(&b, 2, 1, 1);
+    start_sealed(&b);
+    check_byte("bus 0, beside a list 0", 1, 1, 9, 0);
+    check_byte("bus 1, beside a kind and a list 1", 2, 1, 10, 0);
+}
+
 /* First, last and one past, of 505 entries, with bytes behind the table. */
 static void full_table(void)
 {
@@ -332,6 +348,7 @@ static void fixed_edits(struct rng *r)
     every_length(r);
     cut_board();
     extended_bus();
+    unnamed_bus();
     full_table();
 }
 

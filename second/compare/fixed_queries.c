@@ -412,4 +412,5 @@ void fixed_queries(struct rng *draws)
     short_climbs();
     chain_of_256(false);
     chain_of_256(true);
+    fixed_families();
 }

@@ -2,11 +2,11 @@
 Rule, what is wrong, old text (must occur once), new text."""
 
 ROUTE_TEST = "    if (from->type > 3 || !listed(&t, from->bus))\n        return refused(24);\n"
-ADDRESS_TEST = "    if (kind > 2 || !listed(&t, bus))\n        return 24;\n"
+ADDRESS_TEST = "    if (kind > 2 || !(j.ids[bus] & A_BUS))\n        return 24;\n"
 TOO_SMALL = "    if (count > size / 2)\n        return refused(19);\n"
-TAKEN = "        if (in(&c->taken, bus))\n            return answer(NO, links);\n"
-HELD = "        if (in(&c->held, bus))\n            return answer(YES, links);\n"
-NOT_UP = "        if (!in(&c->subtractive, bus))\n            return answer(in(&c->declared, bus) ? NO : UNDECLARED, links);\n"
+TAKEN = "        if (marks & TAKEN)\n            return answer(NO, links);\n"
+HELD = "        if (marks & HELD)\n            return answer(left_over(below), links);\n"
+NOT_UP = "        if (!(marks & SUBTRACTIVE))\n            return answer(marks & DECLARED ? NO : UNDECLARED, links);\n"
 WRITE = "    if (count > 0)\n        put_pairs(&h, &to, room);\n    return counted(count);\n"
 ANSWER = "    return counted(count);\n}\n\nstatic uint64_t routes("
 ROUTED = "    return routes_of(&t, side, from, room, size);\n"
@@ -14,9 +14,43 @@ TO_ALL = "            p = put_to_all(p, to, input);\n"
 HIT = "        if ((get64(e) & mask) != want || (e[6] != ALL && !in(&to->set, e[6])))\n"
 KEEP = "        put_pair(h->pairs + 2 * n++, e[6], e[7]);\n"
 ON_LIST = "    bool touched = q->kind == 0 && q->address < 65536;\n"
-COVERS = "e[3] == q->kind && q->address - get64(e + 4) < get64(e + 12)"
+OF_KIND = "        bool of_kind = e[3] == q->kind;\n"
+COVERS = "        bool covers = q->address - get64(e + 4) < get64(e + 12);\n"
+MAPS = "        c->marks[e[2]] |= DECLARED | (of_kind & covers) * HELD;\n"
+WHAT = "        uint8_t what = e[3] & 1 ? TAKEN : HELD;\n"
+MODIFIES = "        c->marks[e[2]] |= DECLARED | on_list[e[4]] * what;\n"
 JUDGED = "    /* \"Queries test the table, then 24, then 19\" */\n    if ((refusal = plain_judge_walk(bytes, n, &t)) != 0)\n        return refused(refusal);\n"
-JUDGED_ADDRESS = "    if ((refusal = plain_judge_walk(bytes, n, &t)) != 0)\n        return refusal;\n"
+JUDGED_ADDRESS = "    if ((refusal = plain_judge_ids(bytes, n, &t, &j)) != 0)\n        return refusal;\n"
+
+# Of addresses below a parent that others share.
+CLAIMS = "        if ((own & (HELD | TAKEN)) == HELD)\n"
+MARK_CLAIM = "            mark_parent(c, e[4], CLAIMED_BELOW);\n"
+SILENT = "        else if (!(own & DECLARED) && !subtractive)\n"
+MARK_SILENT = "            mark_parent(c, e[4], SILENT_BELOW);\n"
+LEFT = "    return marks & CLAIMED_BELOW ? NO : marks & SILENT_BELOW ? UNDECLARED : YES;\n"
+UP = "        bus = c->parent[bus];\n"
+BELOW = "        if (c->marks[bus] & (CLAIMED_BELOW | SILENT_BELOW))\n            below = c->marks[bus];\n"
+GATHER = "    gather_mappings(&t, &q, &c);\n    gather_modifiers(&t, &q, &c);\n    gather_links(&t, &c);\n"
+GATHER_LINKS = "    gather_links(&t, &c);\n"
+def again(test, what, parent="e[4]"):
+    """The links gathered, and once more, with all mappings and modifiers of each child at hand."""
+    return GATHER_LINKS + f"""    for (size_t at = t.ext[LINK]; at < t.ext[LINK + 1]; at += 8) {{
+        const uint8_t *e = t.bytes + at;
+        bool maps = false, of_kind = false, covers = false, modifies = false;
+        for (size_t k = t.ext[MAPPING]; k < t.ext[LINK]; k += 20) {{
+            const uint8_t *m = t.bytes + k;
+            if (m[2] != e[2])
+                continue;
+            maps = true;
+            of_kind |= m[3] == kind;
+            covers |= address - get64(m + 4) < get64(m + 12);
+        }}
+        for (size_t k = t.ext[MODIFIER]; k < t.ext[MODIFIER + 1]; k += 8)
+            modifies |= t.bytes[k + 2] == e[2];
+        if ({test})
+            mark_parent(&c, {parent}, {what});
+    }}
+"""
 
 SLOT_JUDGED = "    /* \"25 ..., after 24 and before 19\" */\n    if ((refusal = plain_judge_walk(bytes, n, &t)) != 0)\n        return refused(refusal);\n"
 SLOT_LISTED = "    if (entry == NULL)\n        return refused(24);\n"
@@ -51,11 +85,13 @@ QUERY = [
  (24, "route: before the table", JUDGED, "    if (from->type > 3)\n        return refused(24);\n" + JUDGED),
  (24, "route: after 19", ROUTE_TEST, "    if (size == 0)\n        return refused(19);\n" + ROUTE_TEST),
  (24, "route: no match is 24", "    if (count > 0)\n", "    if (count == 0)\n        return refused(24);\n    if (count > 0)\n"),
- (24, "address: kind free", "kind > 2 || !listed", "!listed"),
+ (24, "address: kind free", "kind > 2 || !(j", "!(j"),
  (24, "address: kind 3 allowed", "kind > 2", "kind > 3"),
  (24, "address: kind 2 refused", "kind > 2", "kind > 1"),
  (24, "address: kind with a sign", "kind > 2", "(int8_t)kind > 2"),
- (24, "address: bus free", "kind > 2 || !listed(&t, bus)", "kind > 2"),
+ (24, "address: bus free", "kind > 2 || !(j.ids[bus] & A_BUS)", "kind > 2"),
+ (24, "address: an APIC's ID for a bus's", "!(j.ids[bus] & A_BUS)", "!(j.ids[bus] & (A_BUS | PROCESSOR_ON | IO_APIC_ON))"),
+ (24, "address: after what has no entries", ADDRESS_TEST, "    if (t.ext[MAPPING] == t.ext[EXT_TYPES])\n        return answer(UNDECLARED, 0);\n" + ADDRESS_TEST),
  (24, "address: before the table", JUDGED_ADDRESS, "    if (kind > 2)\n        return 24;\n" + JUDGED_ADDRESS),
  (24, "address: with a value", ADDRESS_TEST, ADDRESS_TEST.replace("return 24", "return 24 | UNDECLARED << 16")),
  (19, "exact room refused", "if (count > size / 2)", "if (count >= size / 2)"),
@@ -123,29 +159,37 @@ QUERY = [
  (0, "route: changes the table", ROUTED, "    ((uint8_t *)bytes)[n - 1] ^= 1;\n" + ROUTED),
  (0, "route: reads behind the table", ROUTED, "    if (*(volatile const uint8_t *)(bytes + n) == 1)\n        size = size + 0;\n" + ROUTED),
  (0, "route: reads before the table", ROUTED, "    if (*(volatile const uint8_t *)(bytes - 1) == 1)\n        size = size + 0;\n" + ROUTED),
- (0, "another kind covers", COVERS, "q->address - get64(e + 4) < get64(e + 12)"),
- (0, "memory covers prefetch", "e[3] == q->kind &&", "(e[3] == q->kind || e[3] + 1 == q->kind) &&"),
- (0, "one past the end covered", "< get64(e + 12))", "<= get64(e + 12))"),
- (0, "last address not covered", "< get64(e + 12))", "+ 1 < get64(e + 12))"),
- (0, "first address not covered", COVERS, COVERS + " && q->address != get64(e + 4)"),
- (0, "ranges up to 2^64 wrap", COVERS, "e[3] == q->kind && q->address >= get64(e + 4) && q->address < get64(e + 4) + get64(e + 12)"),
- (0, "base in 32 bits", "q->address - get64(e + 4) <", "q->address - get32(e + 4) <"),
- (0, "length in 32 bits", "< get64(e + 12))", "< get32(e + 12))"),
- (0, "address in 32 bits", "q->address - get64(e + 4) <", "(uint32_t)q->address - get64(e + 4) <"),
- (0, "length taken for the last address", COVERS, "e[3] == q->kind && q->address >= get64(e + 4) && q->address <= get64(e + 12)"),
- (0, "below the base covered", COVERS, "e[3] == q->kind && (q->address < get64(e + 4) || q->address - get64(e + 4) < get64(e + 12))"),
- (0, "a mapping declares nothing", "        add(&c->declared, e[2]);\n        /*\n", "        /*\n"),
- (0, "an empty range declares nothing", "        add(&c->declared, e[2]);\n        /*\n", "        if (get64(e + 12) != 0)\n            add(&c->declared, e[2]);\n        /*\n"),
- (0, "only the kind asked declares", "        add(&c->declared, e[2]);\n        /*\n", "        if (e[3] == q->kind)\n            add(&c->declared, e[2]);\n        /*\n"),
+ (0, "another kind covers", MAPS, MAPS.replace("(of_kind & covers)", "covers")),
+ (0, "memory covers prefetch", OF_KIND, OF_KIND.replace(";", " || e[3] + 1 == q->kind;")),
+ (0, "kind in its low bit", OF_KIND, OF_KIND.replace("e[3] == q->kind", "((e[3] ^ q->kind) & 1) == 0")),
+ (0, "one past the end covered", COVERS, COVERS.replace("<", "<=")),
+ (0, "last address not covered", COVERS, COVERS.replace("<", "+ 1 <")),
+ (0, "first address not covered", COVERS, COVERS.replace(";", " && q->address != get64(e + 4);")),
+ (0, "ranges up to 2^64 wrap", COVERS, "        bool covers = q->address >= get64(e + 4) && q->address < get64(e + 4) + get64(e + 12);\n"),
+ (0, "base in 32 bits", COVERS, COVERS.replace("get64(e + 4)", "get32(e + 4)")),
+ (0, "length in 32 bits", COVERS, COVERS.replace("get64(e + 12)", "get32(e + 12)")),
+ (0, "address in 32 bits", COVERS, COVERS.replace("q->address", "(uint32_t)q->address")),
+ (0, "length taken for the last address", COVERS, "        bool covers = q->address >= get64(e + 4) && q->address <= get64(e + 12);\n"),
+ (0, "below the base covered", COVERS, COVERS.replace("= q", "= q->address < get64(e + 4) || q")),
+ (0, "a mapping declares nothing", MAPS, MAPS.replace("DECLARED | ", "")),
+ (0, "an empty range declares nothing", MAPS, MAPS.replace("DECLARED", "(get64(e + 12) != 0) * DECLARED")),
+ (0, "only the kind asked declares", MAPS, MAPS.replace("DECLARED", "of_kind * DECLARED")),
+ (0, "the last mapping decides", MAPS, MAPS.replace("|=", "=")),
  (0, "last mapping left out", "at < t->ext[MAPPING + 1]; at += 20)", "at + 20 < t->ext[MAPPING + 1]; at += 20)"),
  (0, "last link left out", "at < t->ext[LINK + 1]; at += 8)", "at + 8 < t->ext[LINK + 1]; at += 8)"),
+ (0, "first link left out", "for (size_t at = t->ext[LINK];", "for (size_t at = t->ext[LINK] + 8;"),
  (0, "last modifier left out", "at < t->ext[MODIFIER + 1]; at += 8)", "at + 8 < t->ext[MODIFIER + 1]; at += 8)"),
  (0, "unknown types modify", "at < t->ext[MODIFIER + 1]; at += 8)", "at + 8 <= t->ext_end && t->bytes[at + 4] < 2; at += 8)"),
- (0, "every link climbed", "        if (e[3] & 1) {\n", "        if (1) {\n"),
- (0, "subtractive by the whole byte", "        if (e[3] & 1) {\n", "        if (e[3] == 1) {\n"),
- (0, "bit 1 subtractive", "        if (e[3] & 1) {\n", "        if (e[3] & 2) {\n"),
- (0, "child for parent", "            add(&c->subtractive, e[2]);\n            c->parent[e[2]] = e[4];\n", "            add(&c->subtractive, e[4]);\n            c->parent[e[4]] = e[2];\n"),
- (0, "a link declares", "        if (e[3] & 1) {\n", "        add(&c->declared, e[2]);\n        if (e[3] & 1) {\n"),
+ (0, "every link climbed", "        if (subtractive)\n", "        if (1)\n"),
+ (0, "subtractive by the whole byte", "bool subtractive = e[3] & 1;", "bool subtractive = e[3] == 1;"),
+ (0, "bit 1 subtractive", "bool subtractive = e[3] & 1;", "bool subtractive = e[3] & 2;"),
+ (0, "child for parent", "            c->marks[e[2]] = own | SUBTRACTIVE;\n        c->parent[e[2]] = e[4];\n", "            c->marks[e[4]] |= SUBTRACTIVE;\n        c->parent[e[4]] = e[2];\n"),
+ (0, "a link declares", "        c->parent[e[2]] = e[4];\n", "        c->parent[e[2]] = e[4];\n        c->marks[e[2]] |= DECLARED;\n"),
+ (0, "nothing without mappings", "    if (t.ext[MAPPING] == t.ext[EXT_TYPES])\n", "    if (t.ext[MAPPING] == t.ext[LINK])\n"),
+ (0, "nothing without mappings and links", "    if (t.ext[MAPPING] == t.ext[EXT_TYPES])\n", "    if (t.ext[MAPPING] == t.ext[MODIFIER])\n"),
+ (0, "no without extended entries", "        return answer(UNDECLARED, 0);\n", "        return answer(NO, 0);\n"),
+ (0, "others: the first that says something", "    if (!(c->marks[parent] & what))\n", "    if (!(c->marks[parent] & (CLAIMED_BELOW | SILENT_BELOW)))\n"),
+ (0, "others: a mark of theirs for the parent's own", "        c->marks[parent] |= what;\n", "        c->marks[parent] = what;\n"),
  (0, "memory modified too", ON_LIST, "    bool touched = q->kind < 2 && q->address < 65536;\n"),
  (0, "prefetch modified too", ON_LIST, "    bool touched = q->kind != 1 && q->address < 65536;\n"),
  (0, "65,536 and up modified", "q->kind == 0 && q->address < 65536;", "q->kind == 0;"),
@@ -167,27 +211,28 @@ QUERY = [
  (0, "VGA from 3BFh", "low >= 0x3C0", "low >= 0x3BF"),
  (0, "VGA to 3DEh", "low <= 0x3DF", "low <= 0x3DE"),
  (0, "VGA to 3E0h", "low <= 0x3DF", "low <= 0x3E0"),
- (0, "lists exchanged", "if (on_list[e[4]])", "if (on_list[1 - e[4]])"),
- (0, "both lists always", "if (on_list[e[4]])", "if (on_list[0] || on_list[1])"),
- (0, "a modifier declares nothing", "        add(&c->declared, e[2]);\n        if (on_list", "        if (on_list"),
- (0, "a modifier declares where it touches", "        add(&c->declared, e[2]);\n        if (on_list", "        if (touched)\n            add(&c->declared, e[2]);\n        if (on_list"),
- (0, "adds and takes exchanged", "add(e[3] & 1 ? &c->taken : &c->held, e[2]);", "add(e[3] & 1 ? &c->held : &c->taken, e[2]);"),
- (0, "takes by the whole byte", "add(e[3] & 1 ? &c->taken", "add(e[3] == 1 ? &c->taken"),
- (0, "the last modifier decides", "add(e[3] & 1 ? &c->taken : &c->held, e[2]);", "{\n            if (!(e[3] & 1))\n                c->taken.word[e[2] >> 6] &= ~((uint64_t)1 << (e[2] & 63));\n            add(e[3] & 1 ? &c->taken : &c->held, e[2]);\n        }"),
+ (0, "lists exchanged", MODIFIES, MODIFIES.replace("e[4]", "1 - e[4]")),
+ (0, "both lists always", MODIFIES, MODIFIES.replace("on_list[e[4]]", "(on_list[0] || on_list[1])")),
+ (0, "a modifier declares nothing", MODIFIES, MODIFIES.replace("DECLARED | ", "")),
+ (0, "a modifier declares where it touches", MODIFIES, MODIFIES.replace("DECLARED", "touched * DECLARED")),
+ (0, "adds and takes exchanged", WHAT, WHAT.replace("TAKEN : HELD", "HELD : TAKEN")),
+ (0, "takes by the whole byte", WHAT, WHAT.replace("e[3] & 1", "e[3] == 1")),
+ (0, "the last modifier decides", MODIFIES, "        if (what == HELD && on_list[e[4]])\n            c->marks[e[2]] &= ~TAKEN;\n" + MODIFIES),
+ (0, "modifiers for mappings", MODIFIES, MODIFIES.replace("|=", "=")),
  (0, "nothing taken away", TAKEN, ""),
  (0, "a mapping before what is taken away", TAKEN + HELD, HELD + TAKEN),
- (0, "taken away, but the parent asked", TAKEN, "        if (in(&c->taken, bus) && !in(&c->subtractive, bus))\n            return answer(NO, links);\n"),
- (0, "taken away on the first bus only", "        if (in(&c->taken, bus))\n", "        if (links == 0 && in(&c->taken, bus))\n"),
- (0, "held on the first bus only", "        if (in(&c->held, bus))\n", "        if (links == 0 && in(&c->held, bus))\n"),
- (0, "declared before the parent", NOT_UP, "        if (in(&c->declared, bus))\n            return answer(NO, links);\n" + NOT_UP),
- (0, "never climbed", NOT_UP, NOT_UP.replace("!in(&c->subtractive, bus)", "1")),
- (0, "one link only", NOT_UP, NOT_UP.replace("!in(", "links == 1 || !in(")),
- (0, "ten links only", NOT_UP, NOT_UP.replace("!in(", "links == 10 || !in(")),
- (0, "254 links only", NOT_UP, NOT_UP.replace("!in(", "links == 254 || !in(")),
+ (0, "taken away, but the parent asked", TAKEN, TAKEN.replace("marks & TAKEN", "(marks & (TAKEN | SUBTRACTIVE)) == TAKEN")),
+ (0, "taken away on the first bus only", TAKEN, TAKEN.replace("(marks", "(links == 0 && marks")),
+ (0, "held on the first bus only", HELD, HELD.replace("(marks", "(links == 0 && marks")),
+ (0, "declared before the parent", NOT_UP, "        if (marks & DECLARED)\n            return answer(NO, links);\n" + NOT_UP),
+ (0, "never climbed", NOT_UP, NOT_UP.replace("!(marks & SUBTRACTIVE)", "1")),
+ (0, "one link only", NOT_UP, NOT_UP.replace("!(marks", "links == 1 || !(marks")),
+ (0, "ten links only", NOT_UP, NOT_UP.replace("!(marks", "links == 10 || !(marks")),
+ (0, "254 links only", NOT_UP, NOT_UP.replace("!(marks", "links == 254 || !(marks")),
  (0, "undeclared is no", "? NO : UNDECLARED, links)", "? NO : NO, links)"),
  (0, "undeclared above is no", "? NO : UNDECLARED, links)", "|| links > 0 ? NO : UNDECLARED, links)"),
  (0, "no and undeclared exchanged", "? NO : UNDECLARED, links)", "? UNDECLARED : NO, links)"),
- (0, "declared below is no", NOT_UP, NOT_UP.replace("in(&c->declared, bus) ?", "in(&c->declared, bus) || declared ?").replace("        if (!in(&c->sub", "        static bool declared;\n        declared = (links > 0 && declared) || in(&c->declared, bus);\n        if (!in(&c->sub")),
+ (0, "declared below is no", NOT_UP, NOT_UP.replace("marks & DECLARED ?", "declared ?").replace("        if (!(marks", "        static bool declared;\n        declared = (links > 0 && declared) || marks & DECLARED;\n        if (!(marks")),
  (0, "links not counted", "links << 24 | value << 16", "value << 16"),
  (0, "links one more", "links << 24 | value << 16", "(links + 1) << 24 | value << 16"),
  (0, "links only with yes", "links << 24 | value << 16", "(value == YES ? links << 24 : 0) | value << 16"),
@@ -195,13 +240,88 @@ QUERY = [
  (0, "links in seven bits", "links << 24 | value << 16", "(links & 127) << 24 | value << 16"),
  (0, "links counted in 8 bits", "links << 24 | value << 16", "(links & 255) << 24 | value << 16"),
  (0, "made-up link count", "links << 24 | value << 16", "(uint64_t)(links > 0) << 24 | value << 16"),
- (0, "one link counted twice", "        bus = c->parent[bus];\n", "        links += links == 20;\n        bus = c->parent[bus];\n"),
+ (0, "one link counted twice", UP, "        links += links == 20;\n" + UP),
  (0, "value in the low byte", "links << 24 | value << 16", "links << 24 | value"),
- (0, "what was taken away once", "    return climb(&c, bus);\n", "    static struct set once;\n    c.taken.word[0] |= once.word[0];\n    once = c.taken;\n    return climb(&c, bus);\n"),
- (0, "address on a refused table", JUDGED_ADDRESS, "    if ((refusal = plain_judge_walk(bytes, n, &t)) != 0 && refusal != 16)\n        return refusal;\n"),
+ (0, "what was taken away once", "    return climb(&c, bus);\n", "    static uint8_t once[256];\n    for (int i = 0; i < 256; i++)\n        once[i] = c.marks[i] |= once[i] & TAKEN;\n    return climb(&c, bus);\n"),
+ (0, "what was declared once", "    start_gathering(&c);\n", "    static uint8_t once[256];\n    memcpy(c.marks, once, 256);\n    once[bus] = DECLARED;\n"),
+ (0, "address on a refused table", JUDGED_ADDRESS, JUDGED_ADDRESS.replace("!= 0)", "!= 0 && refusal != 16)")),
  (0, "address: number in the upper half", JUDGED_ADDRESS, JUDGED_ADDRESS.replace("return refusal", "return (uint32_t)refusal << 16")),
  (0, "address: changes the table", ADDRESS_TEST, ADDRESS_TEST + "    ((uint8_t *)bytes)[n - 1] ^= 1;\n"),
  (0, "address: reads behind the table", ADDRESS_TEST, ADDRESS_TEST + "    if (*(volatile const uint8_t *)(bytes + n) == 1)\n        bus = bus + 0;\n"),
+ (0, "others: do not count", HELD, HELD.replace("left_over(below)", "YES")),
+ (0, "others: do not claim", LEFT, LEFT.replace("marks & CLAIMED_BELOW ? NO : ", "")),
+ (0, "others: are not silent", LEFT, LEFT.replace("marks & SILENT_BELOW ? UNDECLARED : ", "")),
+ (0, "others: undeclared before no", LEFT, "    return marks & SILENT_BELOW ? UNDECLARED : marks & CLAIMED_BELOW ? NO : YES;\n"),
+ (0, "others: undeclared only beside a claim", LEFT, "    return !(marks & CLAIMED_BELOW) ? YES : marks & SILENT_BELOW ? UNDECLARED : NO;\n"),
+ (0, "others: a silent one makes no", LEFT, LEFT.replace("? UNDECLARED", "? NO")),
+ (0, "others: a claim makes undeclared", LEFT, LEFT.replace("? NO", "? UNDECLARED")),
+ (0, "others: what one takes away is claimed too", CLAIMS, "        if (own & HELD)\n"),
+ (0, "others: to take away is to claim", CLAIMS, "        if (own & (HELD | TAKEN))\n"),
+ (0, "others: only what is taken away is claimed", CLAIMS, CLAIMS.replace("== HELD", "== (HELD | TAKEN)")),
+ (0, "others: a claim without the bit only", CLAIMS, CLAIMS.replace("if (", "if (!subtractive && ")),
+ (0, "others: a claim with the bit only", CLAIMS, CLAIMS.replace("if (", "if (subtractive && ")),
+ (0, "others: a claim of another kind", GATHER_LINKS, again("covers && !(c.marks[e[2]] & TAKEN)", "CLAIMED_BELOW")),
+ (0, "others: a claim by any range of the kind", GATHER_LINKS, again("of_kind && !(c.marks[e[2]] & TAKEN)", "CLAIMED_BELOW")),
+ (0, "others: a claim by any entry", CLAIMS, "        if (own & DECLARED)\n"),
+ (0, "others: a claim by what it gets from its parent", GATHER_LINKS, again("e[3] & 1 && !maps && !modifies && e[2] != bus", "CLAIMED_BELOW")),
+ (0, "others: a claim below it", CLAIMS, CLAIMS.replace("if (", "if (own & CLAIMED_BELOW || ")),
+ (0, "others: silent below it", SILENT, SILENT.replace("if (!(", "if (own & SILENT_BELOW || !(")),
+ (0, "others: silent with the bit too", SILENT, SILENT.replace(" && !subtractive", "")),
+ (0, "others: silent with the bit only", SILENT, SILENT.replace("!sub", "sub")),
+ (0, "others: silent by the whole byte", SILENT, SILENT.replace("!subtractive", "e[3] == 0")),
+ (0, "others: silent with mappings of another kind", GATHER_LINKS, again("!(e[3] & 1) && !of_kind && !modifies", "SILENT_BELOW")),
+ (0, "others: silent with mappings", GATHER_LINKS, again("!(e[3] & 1) && maps && !modifies", "SILENT_BELOW")),
+ (0, "others: silent without mappings", GATHER_LINKS, again("!(e[3] & 1) && !maps", "SILENT_BELOW")),
+ (0, "others: silent where it does not claim", SILENT, "        else if (!subtractive)\n"),
+ (0, "others: silent where it takes away", SILENT, SILENT.replace("(!(own & DECLARED)", "((own & TAKEN || !(own & DECLARED))")),
+ (0, "others: silent where it gives up its claim", SILENT, SILENT.replace("(!(own & DECLARED)", "((own & HELD || !(own & DECLARED))")),
+ (0, "others: the bit is of the parent", SILENT, SILENT.replace("!subtractive", "!(c->marks[e[4]] & SUBTRACTIVE)")),
+ (0, "others: at the last link only", BELOW, "        below = c->marks[bus];\n"),
+ (0, "others: at the first link only", BELOW, BELOW.replace("if (", "if (links == 0 && ")),
+ (0, "others: not at the first link", BELOW, BELOW.replace("if (", "if (links > 0 && ")),
+ (0, "others: at two links only", BELOW, BELOW.replace("if (", "if (links < 2 && ")),
+ (0, "others: at ten links only", BELOW, BELOW.replace("if (", "if (links < 10 && ")),
+ (0, "others: at 200 links only", BELOW, BELOW.replace("if (", "if (links < 200 && ")),
+ (0, "others: not at the last of several links", BELOW, BELOW.replace("if (", "if ((links == 0 || !(c->marks[bus] & (TAKEN | HELD))) && ")),
+ (0, "others: the lowest decides", BELOW, BELOW.replace("if (", "if (below == 0 && ")),
+ (0, "others: any claim on the way", BELOW, BELOW.replace("below =", "below |=")),
+ (0, "others: any silence on the way", BELOW, BELOW.replace("if (", "if (!(below & SILENT_BELOW) && ")),
+ (0, "others: only a claim above ends it", BELOW, BELOW.replace("(CLAIMED_BELOW | SILENT_BELOW)", "CLAIMED_BELOW")),
+ (0, "others: only silence above ends it", BELOW, BELOW.replace("(CLAIMED_BELOW | SILENT_BELOW)", "SILENT_BELOW")),
+ (0, "others: two links cancel", BELOW, BELOW.replace("below =", "below ^=")),
+ (0, "others: the children of the asked bus", "    uint8_t below = 0; ", "    uint8_t below = c->marks[bus]; "),
+ (0, "others: beside the bus that answers", HELD, HELD.replace("answer(", "answer(links > 0 && marks & SUBTRACTIVE && c->marks[c->parent[bus]] & SILENT_BELOW ? UNDECLARED : ")),
+ (0, "others: the bus that answers beside itself", HELD, HELD.replace("answer(", "answer(links > 0 && marks & SUBTRACTIVE ? left_over(c->marks[c->parent[bus]]) : ")),
+ (0, "others: the parent itself claims", HELD, HELD.replace("left_over(below)", "links > 0 ? NO : YES")),
+ (0, "others: itself silent", UP, "        if (!(marks & DECLARED))\n            below = SILENT_BELOW;\n" + UP),
+ (0, "others: itself claims", "    uint8_t below = 0; ", "    uint8_t below = c->marks[bus] & SUBTRACTIVE ? c->marks[c->parent[bus]] : 0; "),
+ (0, "others: by the grandparent", GATHER_LINKS, again("j.ids[e[4]] & 32 && (c.marks[e[2]] & (HELD | TAKEN)) == HELD", "CLAIMED_BELOW", "c.parent[e[4]]")),
+ (0, "others: silent by the grandparent", GATHER_LINKS, again("j.ids[e[4]] & 32 && !(e[3] & 1) && !maps && !modifies", "SILENT_BELOW", "c.parent[e[4]]")),
+ (0, "others: the parent's children's", GATHER_LINKS, again("c.marks[e[2]] & CLAIMED_BELOW", "CLAIMED_BELOW")),
+ (0, "others: without any parent", GATHER_LINKS, GATHER_LINKS + "    for (int i = 0; i < 256; i++)\n        if (!(j.ids[i] & 32) && c.marks[i] & HELD && !(c.marks[i] & TAKEN) && i != c.parent[bus])\n            mark_parent(&c, c.parent[bus], CLAIMED_BELOW);\n"),
+ (0, "others: one parent for all", MARK_CLAIM, "            for (int i = 0; i < 256; i++)\n                mark_parent(c, (uint8_t)i, CLAIMED_BELOW);\n"),
+ (0, "others: silent for all parents", MARK_SILENT, "            for (int i = 0; i < 256; i++)\n                mark_parent(c, (uint8_t)i, SILENT_BELOW);\n"),
+ (0, "others: claims marked on themselves", MARK_CLAIM, MARK_CLAIM.replace("e[4]", "e[2]")),
+ (0, "others: silence marked on themselves", MARK_SILENT, MARK_SILENT.replace("e[4]", "e[2]")),
+ (0, "others: parents below 128", MARK_CLAIM, MARK_CLAIM.replace("e[4]", "e[4] & 127")),
+ (0, "others: parents from 128 on are not silent", MARK_SILENT, MARK_SILENT.replace("e[4]", "e[4] & 127")),
+ (0, "others: two claims cancel", MARK_CLAIM, "            c->marks[e[4]] ^= CLAIMED_BELOW;\n"),
+ (0, "others: two silent ones cancel", MARK_SILENT, "            c->marks[e[4]] ^= SILENT_BELOW;\n"),
+ (0, "others: the last that claims or is silent", MARK_SILENT, "            c->marks[e[4]] = (c->marks[e[4]] & ~CLAIMED_BELOW) | SILENT_BELOW;\n"),
+ (0, "others: the last one decides", MARK_SILENT, MARK_SILENT + "        else\n            c->marks[e[4]] &= ~(CLAIMED_BELOW | SILENT_BELOW);\n"),
+ (0, "others: the first one decides", MARK_CLAIM, "            c->marks[e[4]] |= c->marks[e[4]] & SILENT_BELOW ? 0 : CLAIMED_BELOW;\n"),
+ (0, "others: before their modifiers are known", GATHER, "    gather_mappings(&t, &q, &c);\n    gather_links(&t, &c);\n    gather_modifiers(&t, &q, &c);\n"),
+ (0, "others: before their mappings are known", GATHER, "    gather_modifiers(&t, &q, &c);\n    gather_links(&t, &c);\n    gather_mappings(&t, &q, &c);\n"),
+ (0, "others: before anything is known", GATHER, "    gather_links(&t, &c);\n    gather_mappings(&t, &q, &c);\n    gather_modifiers(&t, &q, &c);\n"),
+ (0, "others: no links where it is no longer yes", HELD, HELD.replace(", links)", ", below ? 0 : links)")),
+ (0, "others: one link fewer where it is no longer yes", HELD, HELD.replace(", links)", ", below ? links - 1 : links)")),
+ (0, "others: links up to the parent that decides", BELOW, BELOW.replace("below = c->marks[bus];", "below = c->marks[bus], up = links + 1;").replace("        if (c->marks", "        static uint64_t up;\n        if (c->marks") + "        if (c->marks[bus] & HELD && !(c->marks[bus] & TAKEN) && below)\n            return answer(left_over(below), up);\n"),
+ (0, "others: one more link where it is no longer yes", HELD, HELD.replace(", links)", ", below ? links + 1 : links)")),
+ (0, "others: a parent's no is undeclared beside a silent one", NOT_UP, NOT_UP.replace("marks & DECLARED ?", "marks & DECLARED && !(below & SILENT_BELOW) ?")),
+ (0, "others: what a parent takes away is undeclared beside a silent one", TAKEN, TAKEN.replace("answer(NO", "answer(below & SILENT_BELOW ? UNDECLARED : NO")),
+ (0, "others: a parent's undeclared is no beside a claim", NOT_UP, NOT_UP.replace("marks & DECLARED ?", "marks & DECLARED || below & CLAIMED_BELOW ?")),
+ (0, "others: a parent's undeclared is left over too", NOT_UP, NOT_UP.replace("? NO : UNDECLARED", "? NO : below ? left_over(below) : UNDECLARED")),
+ (0, "others: yes where only the bus has the bit", NOT_UP, NOT_UP.replace("? NO : UNDECLARED", "? NO : links > 0 && !below ? YES : UNDECLARED")),
  (24, "slot: an unlisted bus is 25", SLOT_LISTED, SLOT_LISTED.replace("24", "25")),
  (24, "slot: an unlisted bus goes nowhere", SLOT_LISTED, SLOT_LISTED.replace("refused(24)", "counted(0)")),
  (24, "slot: after 25", "    /* 24: \"bus not listed\" */\n", "    if (device > 31 || pin > 3)\n        return refused(25);\n"),

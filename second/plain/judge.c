@@ -36,10 +36,10 @@ static const uint64_t bus_names[32] = {
     KNOWN('V','M','E',' ',' ',' '), KNOWN('X','P','R','E','S','S'),
 };
 
-/* Marks of an ID beside those of enabled APICs, which are in plain.h. */
+/* Marks of an ID beside those in plain.h, of enabled APICs and of buses. */
 enum {
-    A_PROCESSOR = 4, AN_IO_APIC = 8, A_BUS = 16,   /* listed, enabled or not */
-    LINKED = 32, SEEN = 64                         /* see in_a_circle() */
+    A_PROCESSOR = 4, AN_IO_APIC = 8,   /* listed, enabled or not */
+    LINKED = 32, SEEN = 64             /* see in_a_circle() */
 };
 
 static void start_judging(struct judge *j, struct table *t)

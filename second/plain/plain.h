@@ -30,13 +30,13 @@ uint64_t plain_judge(const uint8_t *t, size_t n);
 /* The same; where it answers 0, it also tells where the entries stand. */
 uint8_t plain_judge_walk(const uint8_t *t, size_t n, struct table *walked);
 
-/* Marks of an ID: an enabled processor has it, an enabled I/O APIC has it. */
-enum { PROCESSOR_ON = ENABLED, IO_APIC_ON = 2 };
+/* Marks of an ID: an enabled processor has it, an enabled I/O APIC, a bus. */
+enum { PROCESSOR_ON = ENABLED, IO_APIC_ON = 2, A_BUS = 16 };
 
 /* What a judge knows of the entries that it has passed. */
 struct judge {
     struct table *table;
-    uint8_t ids[256];      /* the marks of each, these and others; 255 has both */
+    uint8_t ids[256];      /* the marks of each, and others; 255 has the first two */
     uint32_t processors;   /* how many processors are enabled, */
     uint32_t io_apics;     /* and how many I/O APICs */
     uint8_t later;         /* the first of 14 to 18 that is broken, or 0 */

@@ -232,40 +232,43 @@ struct question {
     uint64_t address;
 };
 
+/* Marks of a bus: what its own entries say, and those of its children. */
+enum {
+    TAKEN = 1,                /* a modifier takes the address away */
+    HELD = 2,                 /* a mapping covers it, or a modifier adds it */
+    DECLARED = 4,             /* any mapping or modifier at all */
+    SUBTRACTIVE = 8,
+    CLAIMED_BELOW = 16,       /* a child holds it, and does not take it away */
+    SILENT_BELOW = 32         /* a child declares nothing, nor has the bit */
+};
+
 /* What the extended entries say of each bus, as far as a question goes. */
 struct claims {
-    struct set taken;         /* a modifier takes the address away */
-    struct set held;          /* a mapping covers it, or a modifier adds it */
-    struct set declared;      /* any mapping or modifier at all */
-    struct set subtractive;
-    uint8_t parent[256];      /* of the subtractive ones */
+    uint8_t marks[256];
+    uint8_t parent[256];      /* of those that have one */
 };
+
+static void start_gathering(struct claims *c)
+{
+    /* In pieces, as the judge does. */
+    for (size_t i = 0; i < sizeof c->marks; i += 64)
+        memset(c->marks + i, 0, 64);
+}
 
 static void gather_mappings(const struct table *t, const struct question *q,
                             struct claims *c)
 {
     for (size_t at = t->ext[MAPPING]; at < t->ext[MAPPING + 1]; at += 20) {
         const uint8_t *e = t->bytes + at;
-
-        add(&c->declared, e[2]);
+        bool of_kind = e[3] == q->kind;
         /*
          * No range passes 2^64 (18).  So for an address below the base the
          * difference, modulo 2^64, is not below the length.
          */
-        if (e[3] == q->kind && q->address - get64(e + 4) < get64(e + 12))
-            add(&c->held, e[2]);
-    }
-}
+        bool covers = q->address - get64(e + 4) < get64(e + 12);
 
-static void gather_links(const struct table *t, struct claims *c)
-{
-    for (size_t at = t->ext[LINK]; at < t->ext[LINK + 1]; at += 8) {
-        const uint8_t *e = t->bytes + at;
-
-        if (e[3] & 1) {
-            add(&c->subtractive, e[2]);
-            c->parent[e[2]] = e[4];
-        }
+        /* By a product: a branch would be on what follows no pattern. */
+        c->marks[e[2]] |= DECLARED | (of_kind & covers) * HELD;
     }
 }
 
@@ -284,10 +287,43 @@ static void gather_modifiers(const struct table *t, const struct question *q,
 
     for (size_t at = t->ext[MODIFIER]; at < t->ext[MODIFIER + 1]; at += 8) {
         const uint8_t *e = t->bytes + at;
+        uint8_t what = e[3] & 1 ? TAKEN : HELD;
 
-        add(&c->declared, e[2]);
-        if (on_list[e[4]])   /* 0 or 1, by rule 18 */
-            add(e[3] & 1 ? &c->taken : &c->held, e[2]);
+        /* The list is 0 or 1, by rule 18. */
+        c->marks[e[2]] |= DECLARED | on_list[e[4]] * what;
+    }
+}
+
+/*
+ * A mark of a parent is stored only where it is new: of many children each would wait
+ * for the one before.
+ */
+static inline void mark_parent(struct claims *c, uint8_t parent, uint8_t what)
+{
+    if (!(c->marks[parent] & what))
+        c->marks[parent] |= what;
+}
+
+/*
+ * The links, once all else is known of each bus: so the same pass gathers what the
+ * children of each parent say.
+ */
+static void gather_links(const struct table *t, struct claims *c)
+{
+    for (size_t at = t->ext[LINK]; at < t->ext[LINK + 1]; at += 8) {
+        const uint8_t *e = t->bytes + at;
+        bool subtractive = e[3] & 1;
+        uint8_t own = c->marks[e[2]];
+
+        if (subtractive)
+            c->marks[e[2]] = own | SUBTRACTIVE;
+        c->parent[e[2]] = e[4];
+        /* "Declares or adds the address and doesn't take it away" */
+        if ((own & (HELD | TAKEN)) == HELD)
+            mark_parent(c, e[4], CLAIMED_BELOW);
+        /* "Has neither 128 nor 130 entry and no subtractive bit" */
+        else if (!(own & DECLARED) && !subtractive)
+            mark_parent(c, e[4], SILENT_BELOW);
     }
 }
 
@@ -296,17 +332,41 @@ static uint64_t answer(uint64_t value, uint64_t links)
     return links << 24 | value << 16;
 }
 
-/* "First that applies"; parents are in no circle (18), so the climb ends. */
+/*
+ * What is left of a parent's yes (document 02): "no if another bus with that parent"
+ * claims the address; "undeclared if none does but some other such bus" is silent;
+ * "else yes".
+ */
+static uint64_t left_over(uint8_t marks)
+{
+    return marks & CLAIMED_BELOW ? NO : marks & SILENT_BELOW ? UNDECLARED : YES;
+}
+
+/*
+ * "First that applies"; parents are in no circle (18), so the climb ends.
+ *
+ * A bus that is climbed from does not hold the address and has the bit, so it is
+ * not among those of its parent's children that claim it or are silent: these are
+ * other buses.  Their parent's yes is amended by them, and the buses below take a no
+ * or undeclared over as it is.  So the highest parent that has such children decides.
+ * "The link count" stays that of the whole climb.
+ */
 static uint64_t climb(const struct claims *c, uint8_t bus)
 {
+    uint8_t below = 0;        /* the marks of the highest such parent yet */
+
     for (uint64_t links = 0; ; links++) {
-        if (in(&c->taken, bus))
+        uint8_t marks = c->marks[bus];
+
+        if (marks & TAKEN)
             return answer(NO, links);
-        if (in(&c->held, bus))
-            return answer(YES, links);
-        if (!in(&c->subtractive, bus))
-            return answer(in(&c->declared, bus) ? NO : UNDECLARED, links);
+        if (marks & HELD)
+            return answer(left_over(below), links);
+        if (!(marks & SUBTRACTIVE))
+            return answer(marks & DECLARED ? NO : UNDECLARED, links);
         bus = c->parent[bus];
+        if (c->marks[bus] & (CLAIMED_BELOW | SILENT_BELOW))
+            below = c->marks[bus];
     }
 }
 
@@ -315,19 +375,24 @@ uint64_t plain_address(const uint8_t *bytes, size_t n, uint8_t bus, uint8_t kind
 {
     struct question q = { kind, address };
     struct table t;
+    struct judge j;
     struct claims c;
     uint8_t refusal;
 
-    if ((refusal = plain_judge_walk(bytes, n, &t)) != 0)
+    if ((refusal = plain_judge_ids(bytes, n, &t, &j)) != 0)
         return refusal;
 
     /* 24: "bus not listed, address kind over 2" */
-    if (kind > 2 || !listed(&t, bus))
+    if (kind > 2 || !(j.ids[bus] & A_BUS))
         return 24;
 
-    c.taken = c.held = c.declared = c.subtractive = (struct set){ { 0 } };
+    /* Many boards have no such entries: nothing is declared, and no link leads up. */
+    if (t.ext[MAPPING] == t.ext[EXT_TYPES])
+        return answer(UNDECLARED, 0);
+
+    start_gathering(&c);
     gather_mappings(&t, &q, &c);
-    gather_links(&t, &c);
     gather_modifiers(&t, &q, &c);
+    gather_links(&t, &c);
     return climb(&c, bus);
 }

@@ -195,6 +195,36 @@ void make_rising_chain(struct builder *b, uint32_t part)
     chain(b, 254 / part, true);
 }
 
+/* Memory that the other boards leave undeclared. */
+static void high_memory(struct builder *b, uint32_t bus)
+{
+    add_mapping(b, (uint8_t)bus, 1, (uint64_t)1 << 63, (uint64_t)1 << 62);
+}
+
+/* What the root has comes down the whole chain: nobody stands beside it. */
+void make_seen_chain(struct builder *b, uint32_t part)
+{
+    uint32_t n = 255 / part;
+
+    processors(b, 1, 0);
+    buses(b, n + 1);
+    high_memory(b, 0);
+    for (uint32_t bus = n; bus > 0; bus--)
+        add_link(b, (uint8_t)bus, 1, (uint8_t)(bus - 1));
+}
+
+/* All hang on bus 0, and what it has each of them could claim. */
+void make_siblings(struct builder *b, uint32_t part)
+{
+    uint32_t n = 255 / part;
+
+    processors(b, 1, 0);
+    buses(b, n + 1);
+    high_memory(b, 0);
+    for (uint32_t bus = 1; bus <= n; bus++)
+        add_link(b, (uint8_t)bus, 1, 0);
+}
+
 void make_modifiers(struct builder *b, uint32_t part)
 {
     small_board(b);

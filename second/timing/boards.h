@@ -19,11 +19,12 @@ make_board make_mixed, make_large, make_spare;
  * Little but so many entries of one type.  The buses have all names in turn, or
  * are PCI and the last one ISA; the unknown entries have two bytes; all buses of
  * the chain are subtractive, and its links come from the far end on, or from the
- * root on.
+ * root on.  The chain that is seen, and the siblings, have memory at the root.
  */
 make_board make_processors, make_buses, make_pci_buses, make_io_apics,
            make_interrupts, make_local_interrupts, make_mappings, make_chain,
-           make_rising_chain, make_modifiers, make_unknowns;
+           make_rising_chain, make_seen_chain, make_siblings, make_modifiers,
+           make_unknowns;
 
 /* 220 interrupts of one source to all of 16 I/O APICs, and to all of 16 processors. */
 make_board make_sixteen;

@@ -77,6 +77,10 @@ static const struct board boards[] = {
       BIT(JUDGE) | BIT(ADDRESS) },
     { "a chain of 254 links, root first", make_rising_chain, 0, FIRST, BIT(JUDGE),
       BIT(JUDGE) },
+    { "a chain of 255 links, seen", make_seen_chain, 0, FIRST, BIT(ADDRESS),
+      BIT(ADDRESS) },
+    { "255 buses with one parent", make_siblings, 0, FIRST, BIT(JUDGE) | BIT(ADDRESS),
+      BIT(JUDGE) | BIT(ADDRESS) },
     { "512 modifiers", make_modifiers, 0, FIRST, BIT(JUDGE),
       BIT(JUDGE) | BIT(IO_ADDRESS) },
     { "2,048 unknown entries", make_unknowns, 0, FIRST, LISTS,
@@ -238,7 +242,10 @@ static void ask_slot(struct subject *s)
     s->bus = e[4], s->device = e[5] >> 2 & 31, s->pin = e[5] & 3;
 }
 
-/* An address that no bus has, on the first bus that climbs. */
+/*
+ * An address that no bus has, but on the boards that are made for it, on the first
+ * bus that climbs.
+ */
 static void ask_address(struct subject *s)
 {
     s->bus = 0;
