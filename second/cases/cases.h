@@ -57,8 +57,8 @@ void rich_case(struct rng *r, struct test_case *c);
 void chain_case(struct rng *r, struct test_case *c);
 
 /*
- * Buses that share their parents, up to 255 one; and a question about them, whose
- * answer is known from how the table was built.
+ * Buses that share their parents, up to 255 of them one; and a question about them,
+ * whose answer is known from how the table was built.
  */
 void family_case(struct rng *r, struct test_case *c, struct address_query *q);
 

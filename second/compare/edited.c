@@ -304,7 +304,10 @@ static void extended_bus(void)
     check_byte("bus ID twice", 5, 1, 0, 23 + 256 * 15);
 }
 
-/* Kind, range and list have a bus's number, but name none. */
+/*
+ * Kind, range and list have a bus's number, but name none.  Generated tables show it
+ * only by luck: of some seeds none has such a list, and no other use of that bus.
+ */
 static void unnamed_bus(void)
 {
     struct builder b;

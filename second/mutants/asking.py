@@ -295,10 +295,11 @@ QUERY = [
  (0, "others: the parent itself claims", HELD, HELD.replace("left_over(below)", "links > 0 ? NO : YES")),
  (0, "others: itself silent", UP, "        if (!(marks & DECLARED))\n            below = SILENT_BELOW;\n" + UP),
  (0, "others: itself claims", "    uint8_t below = 0; ", "    uint8_t below = c->marks[bus] & SUBTRACTIVE ? c->marks[c->parent[bus]] : 0; "),
+ # Mark 32 of an ID is judge.c's LINKED: the bus has a link.
  (0, "others: by the grandparent", GATHER_LINKS, again("j.ids[e[4]] & 32 && (c.marks[e[2]] & (HELD | TAKEN)) == HELD", "CLAIMED_BELOW", "c.parent[e[4]]")),
  (0, "others: silent by the grandparent", GATHER_LINKS, again("j.ids[e[4]] & 32 && !(e[3] & 1) && !maps && !modifies", "SILENT_BELOW", "c.parent[e[4]]")),
  (0, "others: the parent's children's", GATHER_LINKS, again("c.marks[e[2]] & CLAIMED_BELOW", "CLAIMED_BELOW")),
- (0, "others: without any parent", GATHER_LINKS, GATHER_LINKS + "    for (int i = 0; i < 256; i++)\n        if (!(j.ids[i] & 32) && c.marks[i] & HELD && !(c.marks[i] & TAKEN) && i != c.parent[bus])\n            mark_parent(&c, c.parent[bus], CLAIMED_BELOW);\n"),
+ (0, "others: without any parent", GATHER_LINKS, GATHER_LINKS + "    for (int i = 0; j.ids[bus] & 32 && i < 256; i++)\n        if (!(j.ids[i] & 32) && c.marks[i] & HELD && !(c.marks[i] & TAKEN) && i != c.parent[bus])\n            mark_parent(&c, c.parent[bus], CLAIMED_BELOW);\n"),
  (0, "others: one parent for all", MARK_CLAIM, "            for (int i = 0; i < 256; i++)\n                mark_parent(c, (uint8_t)i, CLAIMED_BELOW);\n"),
  (0, "others: silent for all parents", MARK_SILENT, "            for (int i = 0; i < 256; i++)\n                mark_parent(c, (uint8_t)i, SILENT_BELOW);\n"),
  (0, "others: claims marked on themselves", MARK_CLAIM, MARK_CLAIM.replace("e[4]", "e[2]")),

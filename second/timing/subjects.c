@@ -243,8 +243,8 @@ static void ask_slot(struct subject *s)
 }
 
 /*
- * An address that no bus has, but on the boards that are made for it, on the first
- * bus that climbs.
+ * An address that no bus has, but for the boards made for it; asked on the first bus
+ * that climbs.
  */
 static void ask_address(struct subject *s)
 {
