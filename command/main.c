@@ -37,8 +37,9 @@ static const struct verb {
       "take none. The table stays as it is, and other verbs name its numbers.\n" },
     { "sees", "TABLE BUS KIND ADDRESS",
       "whether a bus sees an address; KIND is io, memory, prefetch or a number", "", 4, 4, sees,
-      "A subtractive bus sees what its parent sees, but not what another bus there claims; and where none\n"
-      "does, but one there declares nothing, it is undeclared. The answer names the bus that decided it.\n" },
+      "A subtractive bus sees what its parent sees, but not what another bus there claims; where none does,\n"
+      "but one there has no map, no mod and no such bit, it is undeclared. Where such a bus decides, the\n"
+      "answer names it.\n" },
     { "edit", "TABLE PLACE STATED WANTED, or TABLE PLACE STATED --set FIELD=VALUE ..",
       "one entry replaced in the file, if it still has the bytes stated", "s", 3, 4, edit,
       "Fields of a processor: id version enabled boot signature features; of a bus: id name;\n"
