@@ -46,10 +46,9 @@ examined_numbers (Examined-as-Accepted s) =
     0 ∷ s.buses ∷ s.ioapics ∷ s.interrupts ∷ s.locals ∷ s.mappings ∷ s.links ∷ s.modifiers ∷ s.others ∷ s.end ∷ []
 examined_numbers (Examined-as-Refused n) = n ∷ []
 
--- A default has two values and a table five. Where a default's pointer stands is none of them: the enum has it for the full
--- listing alone (document 02, ask 6).
+-- A default has two values and a table five.
 abbrev pub held_numbers : Held → List ℕ
-held_numbers (Default pointer number imcr) = 0 ∷ number ∷ imcr ∷ []
+held_numbers (Default number imcr) = 0 ∷ number ∷ imcr ∷ []
 held_numbers (Table pointer imcr address start end) = 0 ∷ pointer ∷ imcr ∷ address ∷ start ∷ end ∷ []
 held_numbers (Held-as-Refused n) = n ∷ []
 

@@ -67,7 +67,7 @@ examined t = examined_of (table_refusal t) (sections t)
 -- What the pointer of a dump tells: "default configuration n", or a table.
 unfoldable pub told : List ℕ → Held
 told d =
-    cond (is_default d) (Default (pointer d).address (feature1 (pointer_bytes d)) (imcr_of d))
+    cond (is_default d) (Default (feature1 (pointer_bytes d)) (imcr_of d))
     (Table (pointer d).address (imcr_of d) (table_address d) (table_start d) (table_end d))
 
 -- The pointer's answer, before any table is judged: 1 to 4, or what it tells.

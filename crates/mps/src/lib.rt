@@ -47,12 +47,11 @@ pub struct Region {
     pub size: u32,
 }
 
-// What a dump holds: refused with 1 to 18, a default configuration, or a table, the last two with where the pointer stands.
-// The table's bytes are those of the dump from `start` to `end`, the end of the region that holds it.
+// What a dump holds: refused with 1 to 18, a default configuration, or a table. The table's bytes are those of
+// the dump from `start` to `end`, the end of the region that holds it.
 #[derive(Drop)]
 pub enum Held {
     Default {
-        pointer: u32,
         number: u8,
         imcr: u8,
     },
