@@ -92,26 +92,26 @@ module _ (ls : List Entry) where
       (λ q. last h.0 (eqb-true (up bus) goal q))
       (λ c. more h.0 (to_way n goal (up bus) c))
 
-  from_way : {n goal bus : ℕ} → Way goal n bus → climbs_to n ls goal bus ≡ true
+  from_way : {goal n bus : ℕ} → Way goal n bus → climbs_to n ls goal bus ≡ true
   from_way {goal} (last {n} {bus} l e) = rw (climbs_to_step n goal bus, l, eq-eqb (up bus) goal e)
   from_way {goal} (more {n} {bus} l w) = rw (climbs_to_step n goal bus, l, from_way w) (or-true (eqb (up bus) goal))
 
   -- A way begins with a link and ends with one,
-  way_linked : {n goal bus : ℕ} → Way goal n bus → linked bus ≡ true
+  way_linked : {goal n bus : ℕ} → Way goal n bus → linked bus ≡ true
   way_linked (last l e) = l
   way_linked (more l w) = l
 
-  way_parent : {n goal bus : ℕ} → Way goal n bus → among goal (each parent_bus ls) ≡ true
+  way_parent : {goal n bus : ℕ} → Way goal n bus → among goal (each parent_bus ls) ≡ true
   way_parent (last {bus} l e) = rw (← e) (linked_among bus l).1
   way_parent (more l w) = way_parent w
 
   -- may be allowed more links,
-  way_longer : {n goal bus : ℕ} → Way goal n bus → Way goal (suc n) bus
+  way_longer : {goal n bus : ℕ} → Way goal n bus → Way goal (suc n) bus
   way_longer (last l e) = last l e
   way_longer (more l w) = more l (way_longer w)
 
   -- and goes on behind its goal.
-  way_on : {n goal bus : ℕ} → linked goal ≡ true → Way goal n bus → Way (up goal) (suc n) bus
+  way_on : {goal n bus : ℕ} → linked goal ≡ true → Way goal n bus → Way (up goal) (suc n) bus
   way_on k (last {n} l e) = more {n = suc n} l (rw e (last k refl))
   way_on k (more l w) = more l (way_on k w)
 
@@ -123,7 +123,7 @@ module _ (ls : List Entry) where
   round_up (more l w) = way_on l w
 
   -- and so is every bus that is climbed to.
-  round_along : {m n goal bus : ℕ} → Way goal m bus → Way bus n bus → Way goal n goal
+  round_along : {goal m n bus : ℕ} → Way goal m bus → Way bus n bus → Way goal n goal
   round_along {n} (last l e) c = subst (λ (g : ℕ). Way g n g) e (round_up c)
   round_along (more l w) c = round_along w (round_up c)
 
@@ -136,7 +136,9 @@ module _ (ls : List Entry) where
   round_climbs : {m n goal bus : ℕ} (k : ℕ) → Way goal m goal → Way goal n bus → climbs k ls bus ≡ true
   unfolding climbs
   round_climbs zero c w = refl
-  round_climbs {bus} (suc k) c w = rw (climbs_step k bus, way_linked w) (round_climbs k c (round_back c w).1)
+  round_climbs {n} {bus} (suc k) c w =
+      let r = round_back c w in
+      rw (climbs_step k bus, way_linked w) (round_climbs {n = r.0} k c r.1)
 
   -- ---- Trails
 

@@ -2,3 +2,5 @@
 //
 // Nothing here runs. A law that speaks of one leaf's definition stands with that leaf (sums, numbers, slices,
 // tables, sets); here are those that belong to no leaf, or to several.
+
+#![tactic(auto)]
