@@ -6,3 +6,5 @@
 // spelled out in it (Book). proofs/ computes the printed listing (Printed), P1 to P12 under one claim (Cases), the other rows
 // under their own (Slots, Renumber, Book) and the other calls on the bench board (Bench). `Computed` opens every definition at
 // once and is written by .ci/lists.
+
+#![tactic(auto)]
