@@ -2,3 +2,5 @@
 //
 // Nothing here runs. specs/Packs.antt has the packing over any list of widths; proofs/Laws.antt that numbers which fit
 // their widths come out as they went in.
+
+#![tactic(auto)]
