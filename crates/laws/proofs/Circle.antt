@@ -97,7 +97,7 @@ module _ (ls : List Entry) where
   from_way {goal} (more {n} {bus} l w) = rw (climbs_to_step n goal bus, l, from_way w) (or-true (eqb (up bus) goal))
 
   -- A way begins with a link and ends with one,
-  way_linked : {goal n bus : ℕ} → Way goal n bus → linked bus ≡ true
+  way_linked : {n goal bus : ℕ} → Way goal n bus → linked bus ≡ true
   way_linked (last l e) = l
   way_linked (more l w) = l
 
