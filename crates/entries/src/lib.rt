@@ -2,6 +2,8 @@
 //
 // Promised of any bytes: `size` answers `base_entry_length` of an entry's type, `count` how many entries bytes are cut into. The
 // definition stands in mps's specs/Layout.antt; the last entry may be cut short.
+#![tactic(auto)]
+
 ghost use Rattle.std.specs.Prelude.{◌≡◌, [], ◌∷◌, length};
 ghost use Rattle.mps.specs.Words.{cut};
 ghost use Rattle.mps.specs.Layout.{base_entry_length};

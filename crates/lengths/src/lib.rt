@@ -2,6 +2,8 @@
 // The code reads these three here and nowhere else.
 //
 // Promised of any bytes: each answers the definition of its name in mps's specs/Layout.antt; a byte past the end reads as 0.
+#![tactic(auto)]
+
 ghost use Rattle.std.specs.Prelude.{◌≡◌};
 ghost use Rattle.mps.specs.Layout.{base_length, extended_length, entry_count};
 

@@ -1,6 +1,8 @@
 // Numbers in bytes: one byte, and little-endian numbers of 2, 4 and 8 bytes, read from a slice and stored in one.
 // The numbers are `le` and `bytes` of crates/mps/specs/Numbers.antt, at every place of every slice: a byte past the
 // end reads as 0, and a store past the end does nothing. proofs/Laws.antt has the laws over any width.
+#![tactic(auto)]
+
 ghost use Rattle.std.specs.Prelude.{◌≡◌, ◌+◌, ◌-◌, ◌^◌, ◌≤◌, ◌<◌, length, get_or};
 ghost use Rattle.std.proofs.lemmas.List.Edits.{sets};
 ghost use Rattle.mps.specs.Numbers.{le, bytes};

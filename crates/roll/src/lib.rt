@@ -6,6 +6,8 @@
 //
 // One byte for each ID: it has a bit for each kind of holder, where a set of `sets` has one. Lent, since an array by value is
 // copied at each call.
+#![tactic(auto)]
+
 ghost use Rattle.std.specs.Prelude.{◌≡◌, ◌%◌};
 ghost use Rattle.roll.specs.Roll.{marked, with_marks};
 

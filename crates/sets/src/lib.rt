@@ -6,6 +6,8 @@
 //
 // Lent, since four words by value are copied at each call. A loop goes over them as a slice: of an array that is lent the
 // toolchain knows neither how many there are nor that each is a word.
+#![tactic(auto)]
+
 ghost use Rattle.std.specs.Prelude.{◌≡◌, length};
 ghost use Rattle.sets.specs.Sets.{holds, with_number, members, lowest_out};
 

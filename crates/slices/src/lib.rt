@@ -3,6 +3,8 @@
 // Each function answers what one definition says, for slices of any length: `same` and `part` of mps's specs/Words.antt,
 // and `sets` and `replicate` of Rattle's lists. None has a `requires`. The laws that callers cite stand in
 // proofs/Laws.antt.
+#![tactic(auto)]
+
 ghost use Rattle.std.specs.Prelude.{◌≡◌, ◌+◌, replicate};
 ghost use Rattle.std.proofs.lemmas.List.Edits.{sets};
 ghost use Rattle.mps.specs.Words.{same as sameBytes, part};

@@ -2,6 +2,8 @@
 // Each function is its definition in crates/mps/specs/Sums.antt, for every slice and every byte.
 // proofs/Laws.antt has what the crates above cite: how a sum follows an append, a changed byte, an exchanged part, a stored
 // checksum.
+#![tactic(auto)]
+
 ghost use Rattle.std.specs.Prelude.{◌≡◌};
 ghost use Rattle.mps.specs.Sums.{sum256, to_store};
 

@@ -4,5 +4,7 @@
 // tests of a name as a number, whether it is that of PCI and a quick one, which spares the look where it holds. Each function
 // answers what one definition says, of mps's specs/Buses.antt and specs/Ranges.antt and of specs/Quick.antt, for every
 // argument: none has a `requires`. The laws that callers cite stand in proofs/Laws.antt.
+#![tactic(auto)]
+
 pub mod names; // MPS Table 4-8
 pub mod ranges; // MPS Table 4-17
