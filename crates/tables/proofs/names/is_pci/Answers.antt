@@ -3,12 +3,8 @@ use mathlib.Core.Path.{refl}
 use Rattle.mps.specs.Words.{text}
 use Rattle.mps.specs.Numbers.{le}
 use Rattle.tables.specs.Quick.{pci_name}
-use Rattle.tables.proofs.names.is_pci.Statement.{statement}
-use Rattle.tables.proofs.names.is_pci.Tie as tie
+use Rattle.tables.proofs.names.is_pci.Goals as goal
 
-returns : tie.Need-returns
+pub returns : goal.returns
 unfolding pci_name text le
 returns c = refl
-
-pub is_pci_spec : {M : Type 1} → statement M
-is_pci_spec = tie.close (tie.spec returns)

@@ -3,12 +3,8 @@ use mathlib.Core.Bool.{or-false}
 use Rattle.mps.specs.Words.{text, any}
 use Rattle.mps.specs.Numbers.{le}
 use Rattle.tables.specs.Quick.{quick_names, quick_name}
-use Rattle.tables.proofs.names.quick.Statement.{statement}
-use Rattle.tables.proofs.names.quick.Tie as tie
+use Rattle.tables.proofs.names.quick.Goals as goal
 
-returns : tie.Need-returns
+pub returns : goal.returns
 unfolding quick_name quick_names any text le
 returns c = rw or-false
-
-pub quick_spec : {M : Type 1} → statement M
-quick_spec = tie.close (tie.spec returns)
