@@ -2,8 +2,8 @@
 use mathlib.Core.Path.{◌≡◌, sym, ◌∙◌}
 use borrow.Author.Rules.{rules}
 use Rattle.mps.specs.Judge.{dump_refusal}
-use Rattle.dump.proofs.Laws.{Pointed, held_number, held_default, held_table}
-use Rattle.listing.proofs.Defaults.{full_refused, full_made, full_written}
+use Rattle.dump.proofs.Laws.{Pointed, held_number, held_table}
+use Rattle.listing.proofs.Defaults.{full_refused, full_default, full_written}
 use Rattle.listing.proofs.full.Statement.{statement}
 use Rattle.listing.proofs.full.Tie as tie
 
@@ -38,9 +38,9 @@ returns c =
 
 returns-2 : tie.Need-returns-2
 returns-2 c =
-    let m = c.before.before.before.before.before.found2.given in
-    let h = held_default _ _ _ _ (sym c.before.before.before.before.before.before.before.read.ensures ∙ m.1) in
-    full_made _ _ _ h.0 h.1 h.2 h.3 h.4 c.before.before.list-made.ensures
+    let told = c.before.before.before.before.before.before.before.found2.given.1 in
+    let read = c.before.before.before.before.before.before.before.before.before.read.ensures in
+    full_default _ _ _ (sym told ∙ read) c.before.before.before.before.pointer.ensures c.before.before.list-made.ensures
 
 returns-3 : tie.Need-returns-3
 returns-3 c =
@@ -57,7 +57,7 @@ full_spec =
     part-list-table-end
     list-table-requires
     returns
-    (λ c. search rules)
+    (λ c κs. search rules) (λ c. search rules)
     returns-2
     (λ c. search rules)
     returns-3)
