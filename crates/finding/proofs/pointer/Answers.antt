@@ -1,5 +1,4 @@
 -- A sound dump has what was spotted, or no pointer.
-use mathlib.Core.Path.{sym, ◌∙◌}
 use Rattle.std.proofs.Common.{rules}
 use Rattle.finding.specs.Spotted.{Spots}
 use Rattle.finding.proofs.Told.{address_none, address_spotted}
