@@ -24,7 +24,7 @@ use Rattle.contents.proofs.Laws.{holding_inside, holding_shorter}
 
 is_refused : Held → Bool
 is_refused (Refused n) = true
-is_refused (Default p n b) = false
+is_refused (Default n b) = false
 is_refused (Table p b a s e) = false
 
 -- The value at place k of an answer's numbers, the refusal's number at 0.
@@ -50,13 +50,7 @@ unfolding is_refused value_at
 refused_number zero h f e = absurd (true≢false (sym (ap is_refused e) ∙ f))
 refused_number (suc k) h f e = let q = ap (value_at 0) e in (q, omega (arith, q))
 
--- Where a default's pointer stands is none of its numbers.
-stands_at : Held → ℕ
-stands_at (Default p n b) = p
-stands_at (Table p b a s e) = p
-stands_at (Refused n) = 0
-
-told_default : (d : List ℕ) → is_default d ≡ true → told d ≡ Default (pointer d).address (feature1 (pointer_bytes d)) (imcr_of d)
+told_default : (d : List ℕ) → is_default d ≡ true → told d ≡ Default (feature1 (pointer_bytes d)) (imcr_of d)
 unfolding told
 told_default d t = rw t
 
@@ -87,15 +81,15 @@ pointed_refused d n e =
     (dump_number d ∙ first_some (refusal (pointer_rules d)) _ (λ z. omega (arith, q, z)) ∙ q.0, q.1)
 
 pub pointed_default :
-    (d : List ℕ) (p n b : ℕ) → pointed d ≡ Default p n b
-    → (dump_refusal d ≡ 0) × (is_default d ≡ true) × (n ≡ feature1 (pointer_bytes d)) × (b ≡ imcr_of d) × (p ≡ (pointer d).address)
-unfolding pointed is_refused value_at value_count stands_at
-pointed_default d p n b e =
+    (d : List ℕ) (n b : ℕ) → pointed d ≡ Default n b
+    → (dump_refusal d ≡ 0) × (is_default d ≡ true) × (n ≡ feature1 (pointer_bytes d)) × (b ≡ imcr_of d)
+unfolding pointed is_refused value_at value_count
+pointed_default d n b e =
     let q = not_refused (refusal (pointer_rules d)) e refl in
     whether (is_default d)
     (λ t.
     let same = sym (told_default d t) ∙ q.1 in
-    (dump_number d ∙ rw (q.0, t) refusal_end, t, sym (ap (value_at 1) same), sym (ap (value_at 2) same), sym (ap stands_at same)))
+    (dump_number d ∙ rw (q.0, t) refusal_end, t, sym (ap (value_at 1) same), sym (ap (value_at 2) same)))
     (λ f. absurd (omega (arith, ap value_count (sym (told_table d f) ∙ q.1))))
 
 -- A pointer that names a table: the table is the dump's bytes from s to e, and what it is refused with the dump is.
@@ -176,10 +170,10 @@ held_pointed d e f =
     (q.0, rw (held_none d q.0) q.1)
 
 pub held_default :
-    (d : List ℕ) (p n b : ℕ) → held d ≡ Default p n b
-    → (dump_refusal d ≡ 0) × (is_default d ≡ true) × (n ≡ feature1 (pointer_bytes d)) × (b ≡ imcr_of d) × (p ≡ (pointer d).address)
+    (d : List ℕ) (n b : ℕ) → held d ≡ Default n b
+    → (dump_refusal d ≡ 0) × (is_default d ≡ true) × (n ≡ feature1 (pointer_bytes d)) × (b ≡ imcr_of d)
 unfolding is_refused
-held_default d p n b e = pointed_default d p n b (held_pointed d e refl).1
+held_default d n b e = pointed_default d n b (held_pointed d e refl).1
 
 pub held_table : (d : List ℕ) (p b a s e : ℕ) → held d ≡ Table p b a s e → (dump_refusal d ≡ 0) × Pointed d p b a s e
 unfolding is_refused

@@ -61,10 +61,10 @@ module _ (d : List ℕ) (e : refusal (pointer_rules d) ≡ 0) where
       (le_below 4 (part k.place (k.place + pointer_size) d) 4 (bytes_part k.place (k.place + pointer_size) d b))
 
 -- A default configuration is 1 to 7, and the bit of a pointer 0 or 1.
-pub default_narrow : (d : List ℕ) (p n b : ℕ) → held d ≡ Default p n b → (0 < n) × (n ≤ default_most) × (b ≤ 1)
+pub default_narrow : (d : List ℕ) (n b : ℕ) → held d ≡ Default n b → (0 < n) × (n ≤ default_most) × (b ≤ 1)
 unfolding is_default
-default_narrow d p n b q =
-    let h = held_default d p n b q in
+default_narrow d n b q =
+    let h = held_default d n b q in
     let f = feature_most d (held_none d h.0) in
     let some = ltb-true 0 (feature1 (pointer_bytes d)) h.1 in
     (omega (arith, h.2, some), omega (arith, h.2, f), rw h.3 (flag_most (imcr (pointer_bytes d))))

@@ -13,11 +13,7 @@ pub fn read(d: &[u8]) -> Held
     let found = finding::find(d);
     match found {
         Held::Refused(n) => Held::Refused(n),
-        Held::Default {
-            pointer,
-            number,
-            imcr,
-        } => found,
+        Held::Default { number, imcr } => Held::Default { number, imcr },
         Held::Table {
             pointer,
             imcr,

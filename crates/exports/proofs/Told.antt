@@ -412,9 +412,9 @@ unfolding held_code addresses_code
 read_told d small = cases (held d) refl
   where
     cases : (r : Held) → held d ≡ r → held_in (held_code r) (addresses_code r) ≡ held_numbers r
-    cases (Default p zero b) q = absurd (omega (arith, (default_narrow d p zero b q).0))
-    cases (Default p (suc n) b) q =
-        let k = default_narrow d p (suc n) b q in
+    cases (Default zero b) q = absurd (omega (arith, (default_narrow d zero b q).0))
+    cases (Default (suc n) b) q =
+        let k = default_narrow d (suc n) b q in
         held_told 0 (suc n ∷ b ∷ []) [] (omega arith) (omega (arith, k.1), (omega (arith, k.2), omega arith)) (omega arith)
     cases (Table p b a s e) q =
         let k = table_narrow d p b a s e small q in

@@ -82,7 +82,7 @@ edited_code answer = packed edited_row (edited_numbers answer)
 -- What a dump holds is told in two codes. The first has the number of a default configuration, 0 for a table; the IMCR bit;
 -- then where a table begins, and how many bytes lie from there to the end of its region.
 abbrev pub held_places : Held → List ℕ
-held_places (Default pointer number imcr) = 0 ∷ number ∷ imcr ∷ []
+held_places (Default number imcr) = 0 ∷ number ∷ imcr ∷ []
 held_places (Table pointer imcr address start end) = 0 ∷ 0 ∷ imcr ∷ start ∷ (end - start) ∷ []
 held_places (Refused n) = n ∷ []
 
@@ -91,7 +91,7 @@ held_code answer = coded held_row (held_places answer)
 
 -- The second is the one code with no refusal in it: the table's address and the floating pointer's.
 abbrev pub held_addresses : Held → List ℕ
-held_addresses (Default pointer number imcr) = []
+held_addresses (Default number imcr) = []
 held_addresses (Table pointer imcr address start end) = address ∷ pointer ∷ []
 held_addresses (Refused n) = []
 

@@ -158,11 +158,7 @@ fn held_code(answer: Held) -> u64
     ensures { result ≡ held_code answer }
 {
     match answer {
-        Held::Default {
-            pointer,
-            number,
-            imcr,
-        } => above(number as u64 + BYTE * imcr as u64),
+        Held::Default { number, imcr } => above(number as u64 + BYTE * imcr as u64),
         Held::Table {
             pointer,
             imcr,
@@ -182,11 +178,7 @@ fn addresses_code(answer: Held) -> u64
     ensures { result ≡ addresses_code answer }
 {
     match answer {
-        Held::Default {
-            pointer,
-            number,
-            imcr,
-        } => 0,
+        Held::Default { number, imcr } => 0,
         Held::Table {
             pointer,
             imcr,

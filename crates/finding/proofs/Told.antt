@@ -2,7 +2,7 @@
 -- Assumes nothing.
 use Prim.Native.Nat.{ℕ, zero, suc, ◌+◌, ◌-◌, ◌/◌, ◌%◌, ◌≤◌, ◌<◌}
 use mathlib.Core.Path.{◌≡◌, refl, ap, sym, ◌∙◌}
-use mathlib.Core.Bool.{true, false, not, or-true}
+use mathlib.Core.Bool.{true, false, not, cond, or-true}
 use mathlib.Core.List.{List, [], ◌∷◌}
 use native.Mathlib.Omega.{arith}
 use lib.ListN.{length, take}
@@ -42,6 +42,20 @@ module _ (d : List ℕ) where
   pub says_2 : sound_dump d ≡ true → pointers d ≡ [] → Refused 2 ≡ pointed d
   unfolding pointer_rules no_pointer
   says_2 s e = number_told 1 (refusal_go _ _ (ap not s) ∙ refusal_stop _ _ (ap none e))
+
+-- ---- Where the first good pointer stands
+
+module _ (d : List ℕ) where
+  pub address_unsound : sound_dump d ≡ false → 0 ≡ cond (sound_dump d) (pointer d).address 0
+  address_unsound s = rw s
+
+  pub address_none : sound_dump d ≡ true → pointers d ≡ [] → 0 ≡ cond (sound_dump d) (pointer d).address 0
+  unfolding pointer
+  address_none s e = rw (s, e)
+
+  pub address_spotted : {a place : ℕ} → sound_dump d ≡ true → SpotsAt d (pointers d) a place → a ≡ cond (sound_dump d) (pointer d).address 0
+  unfolding pointer
+  address_spotted s w = rw s (sym (ap (λ (c : Candidate). c.address) w.first))
 
 -- ---- The region that holds an address, of eight records
 
@@ -120,10 +134,10 @@ module _ (d : List ℕ) {a place : ℕ} (sound : sound_dump d ≡ true) (w : Spo
       default_with_table z = says_4 (rw (is_default_lem, table_is, ne_eqb t 0 z, or-true))
 
       pub tells_default :
-          feature1 p ≤ default_most → t ≡ 0 → byte p 12 < 256 → Default a (feature1 p) (byte p 12 / 128) ≡ pointed d
+          feature1 p ≤ default_most → t ≡ 0 → byte p 12 < 256 → Default (feature1 p) (byte p 12 / 128) ≡ pointed d
       unfolding wrong_feature told
       tells_default h z l =
-          let telling : told d ≡ Default a (feature1 p) (flag (imcr p)) = rw (is_default_lem, address_is, bytes_are) in
+          let telling : told d ≡ Default (feature1 p) (flag (imcr p)) = rw (is_default_lem, bytes_are) in
           let right : wrong_feature d ≡ false = rw (is_default_lem, table_is, eq-eqb t 0 z, bytes_are, le-ltb _ _ h) in
           rw (imcr_bit (byte p 12) l) (sym telling ∙ passes_4 right)
 

@@ -1,16 +1,16 @@
 // What a dump's floating pointer tells, or the number that the dump is refused with before its table is judged: 1 to 4.
 //
-// Promised of any bytes: `find` answers `pointed`. The definition stands in mps's specs/Judge.antt, the rules in
-// specs/Dump.antt and specs/Pointer.antt there. What the search tells the rest is in specs/Spotted.antt; proofs/Spots.antt has
-// what a caller may use of the pointer's place.
+// Promised of any bytes: `find` answers `pointed`, and `pointer` the address of the dump's `pointer`. The definitions stand in
+// mps's specs/Judge.antt and specs/Pointer.antt, the rules in specs/Dump.antt and specs/Pointer.antt there. What the search
+// tells the rest is in specs/Spotted.antt; proofs/Spots.antt has what a caller may use of the pointer's place.
 //
 // The rows of the dump are read again for each search. Only the search for the table's region has them as records, which
 // are lent to it as a slice.
-ghost use Rattle.std.specs.Prelude.{◌≡◌, true, ◌+◌, ◌*◌, ◌≤◌, length};
+ghost use Rattle.std.specs.Prelude.{◌≡◌, cond, true, ◌+◌, ◌*◌, ◌≤◌, length};
 ghost use Rattle.mps.specs.Words.{keep};
 ghost use Rattle.mps.specs.Layout.{regions_most, region_count, row_length, memory_end};
 ghost use Rattle.mps.specs.Dump.{regions as regionsOf, sound_dump, end_of};
-ghost use Rattle.mps.specs.Pointer.{candidates, good_one, pointers as pointersOf};
+ghost use Rattle.mps.specs.Pointer.{candidates, good_one, pointers as pointersOf, pointer as pointer_of};
 ghost use Rattle.mps.specs.Judge.{pointed};
 ghost use Rattle.regions.specs.Regions.{eight, first_of_kind};
 ghost use Rattle.finding.specs.Spotted.{searched_first, Spots, SpotsAt};
@@ -36,6 +36,20 @@ pub fn find(d: &[u8]) -> Held
     match spotted {
         Spotted::Nowhere => Held::Refused(2),
         Spotted::At { address, place } => said(d, address, place),
+    }
+}
+
+// The address of the first good pointer: 0 where there is none, or where the dump is not sound.
+pub fn pointer(d: &[u8]) -> u32
+    ensures { result ≡ cond (sound_dump d.now) (pointer_of d.now).address 0 }
+{
+    if !contents::sound(d) {
+        return 0;
+    }
+    let spotted = spot(d);
+    match spotted {
+        Spotted::Nowhere => 0,
+        Spotted::At { address, place } => address,
     }
 }
 
@@ -147,11 +161,7 @@ fn said(d: &[u8], address: u32, place: usize) -> Held
         if table != 0 {
             return Held::Refused(4);
         }
-        return Held::Default {
-            pointer: address,
-            number,
-            imcr,
-        };
+        return Held::Default { number, imcr };
     }
     if table == 0 {
         return Held::Refused(4);

@@ -1,23 +1,25 @@
 -- The full listing: what is made and listed of a default, and what the call answers and leaves. Assumes nothing.
 use Prim.Native.Nat.{ℕ, ◌≤◌, ◌<◌}
 use mathlib.Core.Path.{◌≡◌, refl, sym, ◌∙◌}
-use mathlib.Core.Bool.{true, false}
+use mathlib.Core.Bool.{true, false, cond}
 use mathlib.Core.List.{List, [], ◌∷◌, ◌++◌, append_assoc}
 use native.Mathlib.Omega.{arith}
 use lib.ListN.{length, take, replicate, length-replicate}
 use Rattle.mps.specs.Words.{among, each, first, part}
 use Rattle.mps.specs.Refusals.{Rule, ◌when◌, refusal, room_number, default_number}
 use Rattle.mps.specs.Rooms.{too_small, room_rules, lent_refusal, fitted_bytes, fit_left}
+use Rattle.mps.specs.Dump.{sound_dump}
 use Rattle.mps.specs.Pointer.{pointer, is_default, imcr_of}
-use Rattle.mps.specs.Judge.{pointer_rules, table_rules, dump_rules, dump_refusal, table_refusal}
+use Rattle.mps.specs.Judge.{pointer_rules, table_rules, dump_rules, dump_refusal, table_refusal, held}
 use Rattle.mps.specs.Listing.{listing, list_refusal, listed, list_left}
 use Rattle.mps.specs.Defaults.{default_table, no_default, made, make_left, default_of, wrong_boot, full_listing, full_rules, full_refusal, full_listed, full_left}
+use Rattle.mps.specs.declared.Held.TheVariants.{Default}
 use Rattle.mps.specs.declared.Lent.{Lent}
 use Rattle.mps.specs.declared.Lent.TheVariants.{Count, Refused}
 use Rattle.laws.proofs.Tests.{whether}
 use Rattle.laws.proofs.Refusals.{number, first_some, first_none, refusal_append, refusal_pass, row_passed}
 use Rattle.laws.proofs.Lent.{lent_early, lent_none, left_kept, lent_refused}
-use Rattle.dump.proofs.Laws.{Pointed}
+use Rattle.dump.proofs.Laws.{Pointed, held_none, held_default, passed_sound}
 use Rattle.defaults.proofs.Laws.{there_accepted}
 use Rattle.defaults.proofs.Calls.{there_is, offer_none, offer_fits, made_refused, made_counted}
 use Rattle.accepted.proofs.Sound.{sound}
@@ -94,6 +96,18 @@ module _ (d : List ℕ) (boot : ℕ) (room : List ℕ) (e : dump_refusal d ≡ 0
         (r ≡ offered w n boot room) × (u ≡ offer_left w n boot room) → (r ≡ full_listed d boot room) × (u ≡ full_left d boot room)
     unfolding offered offer_left full_listed full_left
     full_made q = (rw (refusal_is, text_is) at q.0, rw (refusal_is, text_is) at q.1)
+
+-- Where the finder says that its pointer stands, it does.
+accepted_pointer : (d : List ℕ) → dump_refusal d ≡ 0 → cond (sound_dump d) (pointer d).address 0 ≡ (pointer d).address
+accepted_pointer d e = rw (passed_sound d (held_none d e))
+
+pub full_default :
+    (d : List ℕ) (boot : ℕ) (room : List ℕ) {p n b : ℕ} → Default n b ≡ held d → p ≡ cond (sound_dump d) (pointer d).address 0
+    → {r : Lent} {u : List ℕ} → let w = table_text p b 0 (default_table n boot) in
+    (r ≡ offered w n boot room) × (u ≡ offer_left w n boot room) → (r ≡ full_listed d boot room) × (u ≡ full_left d boot room)
+full_default d boot room {n = n} {b = b} e f q =
+    let h = held_default d n b (sym e) in
+    full_made d boot room h.0 h.1 h.2 h.3 (f ∙ accepted_pointer d h.0) q
 
 -- "a listing tests it only for a default": of a dump with a table the full listing is the listing, whatever boot processor is said.
 module _ (d : List ℕ) (boot : ℕ) (room : List ℕ) (f : is_default d ≡ false) where

@@ -205,11 +205,7 @@ pub fn list(d: &[u8], out: &mut [u8]) -> Lent
     let found = dump::read(d);
     match found {
         Held::Refused(n) => Lent::Refused(n),
-        Held::Default {
-            pointer,
-            number,
-            imcr,
-        } => list_default(number, imcr, out),
+        Held::Default { number, imcr } => list_default(number, imcr, out),
         Held::Table {
             pointer,
             imcr,
@@ -228,11 +224,7 @@ pub fn full(d: &[u8], boot: u8, out: &mut [u8]) -> Lent
     let found = dump::read(d);
     match found {
         Held::Refused(number) => Lent::Refused(number),
-        Held::Default {
-            pointer,
-            number,
-            imcr,
-        } => list_made(number, boot, pointer, imcr, out),
+        Held::Default { number, imcr } => list_made(number, boot, finding::pointer(d), imcr, out),
         Held::Table {
             pointer,
             imcr,

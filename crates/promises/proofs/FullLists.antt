@@ -38,7 +38,7 @@ module _ (d : List ℕ) (boot : ℕ) where
   some_default : dump_refusal d ≡ 0 → is_default d ≡ true → boot ≤ boot_most → There (default_of d) boot
   unfolding held told
   some_default a f b =
-      let k = default_narrow d (pointer d).address (default_of d) (imcr_of d) (rw (a, f)) in
+      let k = default_narrow d (default_of d) (imcr_of d) (rw (a, f)) in
       record { some = k.0; most = k.1; boots = b }
 
   wrong_boot_lem : dump_refusal d ≡ 0 → (wrong_boot d boot ≡ true) ↔ ((is_default d ≡ true) × (boot_most < boot))

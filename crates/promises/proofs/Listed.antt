@@ -63,9 +63,9 @@ unfolding table_text table_lines
 listing_declared d p b a s e h = sym (table_text_lem d (held_table d p b a s e h).1)
 
 -- "A refusal or default is the only line."
-pub listing_default : (d : List ℕ) (p n b : ℕ) → held d ≡ Default p n b → listing d ≡ default_line n b
-listing_default d p n b h =
-    let q = held_default d p n b h in
+pub listing_default : (d : List ℕ) (n b : ℕ) → held d ≡ Default n b → listing d ≡ default_line n b
+listing_default d n b h =
+    let q = held_default d n b h in
     sym (default_text d q.1 q.2 q.3)
 
 -- ---- What the entries of an accepted table are like
@@ -352,10 +352,10 @@ unfolding program_output
 listing_output d e = rw e
 
 module _ (d : List ℕ) where
-  default_output : (p n b : ℕ) → held d ≡ Default p n b → program_output d ≡ joined line_of (lines_told d (Default p n b))
+  default_output : (n b : ℕ) → held d ≡ Default n b → program_output d ≡ joined line_of (lines_told d (Default n b))
   unfolding lines_told joined line_of shown each default_line
-  default_output p n b e =
-      listing_output d (held_default d p n b e).0 ∙ listing_default d p n b e ∙ sym (append-nil (default_line n b))
+  default_output n b e =
+      listing_output d (held_default d n b e).0 ∙ listing_default d n b e ∙ sym (append-nil (default_line n b))
 
   table_output :
       (p b a s e : ℕ) → held d ≡ Table p b a s e
@@ -376,7 +376,7 @@ module _ (d : List ℕ) where
   output_lines = cases (held d) refl
     where
       cases : (r : Held) → held d ≡ r → program_output d ≡ joined line_of (lines_told d r)
-      cases (Default p n b) e = default_output p n b e
+      cases (Default n b) e = default_output n b e
       cases (Table p b a s x) e = table_output p b a s x e
       cases (Refused n) e = refused_output n e
 
@@ -390,8 +390,8 @@ module _ (d : List ℕ) where
     fields_readable = cases (held d) refl
       where
         cases : (r : Held) → held d ≡ r → AllReadable (lines_told d r)
-        cases (Default p n b) e =
-            let k = default_narrow d p n b e in
+        cases (Default n b) e =
+            let k = default_narrow d n b e in
             let first = number_readable n (omega arith) in
             let second = number_readable b (omega arith) in
             rw (word_readable (text "default") refl, first, word_readable (text "imcr") refl, second)

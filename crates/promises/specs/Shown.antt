@@ -188,6 +188,6 @@ table_fields pointer imcr at t =
 -- The lines of what the dump reader answers of a dump: "A refusal or default is the only line."
 unfoldable pub lines_told : List ℕ → Held → List (List Field)
 unfolding text
-lines_told d (Default p n imcr) = (word (text "default") ∷ number n ∷ word (text "imcr") ∷ number imcr ∷ []) ∷ []
+lines_told d (Default n imcr) = (word (text "default") ∷ number n ∷ word (text "imcr") ∷ number imcr ∷ []) ∷ []
 lines_told d (Table pointer imcr at start end) = table_fields pointer imcr at (part start end d)
 lines_told d (Refused n) = (word (text "refused") ∷ number n ∷ []) ∷ []

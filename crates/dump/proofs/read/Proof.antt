@@ -45,7 +45,7 @@ returns-3 : tie.Need-returns-3
 returns-3 c =
     let find = c.before.before.before.find.ensures in
     let told = c.before.found2.given.1 in
-    held_accepted _ (pointed_default _ _ _ _ (sym find ∙ told)).0 (sym told ∙ find)
+    held_accepted _ (pointed_default _ _ _ (sym find ∙ told)).0 (sym told ∙ find)
 
 returns-4 : tie.Need-returns-4
 returns-4 c =

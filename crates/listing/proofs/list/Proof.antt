@@ -47,7 +47,7 @@ returns-2 : tie.Need-returns-2
 returns-2 c =
     let m = c.before.before.before.before.before.found2.given in
     let a = c.before.before.before.before.before.before.before.before.before.before.args in
-    let h = held_default a.d.now m.0.0 m.0.1.0 m.0.1.1.0 (sym c.before.before.before.before.before.before.before.read.ensures ∙ m.1) in
+    let h = held_default a.d.now m.0.0 m.0.1.0 (sym c.before.before.before.before.before.before.before.read.ensures ∙ m.1) in
     list_written a.d.now a.out.now h.0 (default_text a.d.now h.1 h.2 h.3) c.before.before.list-default.ensures
 
 returns-3 : tie.Need-returns-3
