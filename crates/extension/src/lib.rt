@@ -6,6 +6,8 @@
 //
 // The code goes over the runs of the three known types as the walk over the base does (`sections`), and compares the types of
 // those behind them only.
+#![tactic(auto)]
+
 ghost use Rattle.std.specs.Prelude.{◌≡◌, ◌≤◌, length, drop};
 ghost use Rattle.mps.specs.Layout.{mapping_type, modifier_type, extended_entry_length};
 ghost use Rattle.mps.specs.Table.{extended_from};

@@ -1,11 +1,11 @@
 -- The loop looks for the bus among those of PCI: `Seeks`, with `seeks_stop`, `seeks_next` and `seeks_done`.
 use Prim.Native.Nat.{◌-◌}
 use mathlib.Core.Path.{refl, sym, ◌∙◌}
-use mathlib.Core.Logic.{⊎_elim}
 use native.Mathlib.Omega.{arith}
 use Rattle.laws.proofs.Rows.{seeks_done, seeks_stop, seeks_next}
 use Rattle.buses.proofs.Laws.{pci_among, pci_here, pci_other_id, pci_other_name}
 use Rattle.buses.proofs.is_pci.Goals as goal
+use Rattle.buses.proofs.is_pci.Goals.{then-e-bus+else-names_pci, else-e-bus}
 
 pub loop-at-init : goal.loop-at-init
 loop-at-init c = (refl, omega arith)
@@ -21,10 +21,10 @@ pub loop-at-preserved : goal.loop-at-preserved
 loop-at-preserved c =
     let l = c.loop-at in
     let next = seeks_next _ 8 _ l.at l.invariant (omega arith) (omega arith) in
-    ⊎_elim
-    (λ w. next (pci_other_name _ _ l.at (sym w.1.ensures ∙ w.2.left)) refl)
-    (λ w. next (pci_other_id _ _ l.at w.left) refl)
-    c.if-e-bus.branch
+    elim c.if-e-bus.branch [
+      then-e-bus+else-names_pci w ↦ next (pci_other_name _ _ l.at (sym w.names_pci.ensures ∙ w.if-names_pci.false)) refl
+      | else-e-bus w ↦ next (pci_other_id _ _ l.at w.if-e-bus.false) refl
+    ]
 
 pub returns : goal.returns
 returns c = seeks_done _ 8 _ c.loop-at.at c.loop-at.invariant (omega arith) ∙ pci_among _ _
