@@ -39,7 +39,7 @@ pub enum Examined {
 }
 
 // A region of a dump: its kind, its physical base, where its body begins in the dump, and its length.
-#[derive(Drop)]
+#[derive(Clone, Copy)]
 pub struct Region {
     pub kind: u8,
     pub base: u32,
