@@ -7,7 +7,7 @@ use mps::Fields;
 use std::io::Write;
 
 // How many values there are, and the values; 0 behind the last.
-#[derive(Drop)]
+#[derive(Clone, Copy)]
 pub struct Answer {
     pub count: u8,
     pub values: [u64; 12],

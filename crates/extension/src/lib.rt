@@ -17,7 +17,7 @@ ghost use Rattle.extension.specs.Extended.{extended_sections, extended_entries_i
 use mps::layout;
 
 // Where the entries of each type begin, from the first extended byte; mappings begin there.
-#[derive(Drop)]
+#[derive(Clone, Copy)]
 pub enum ExtendedSections {
     Ascending {
         links: usize,

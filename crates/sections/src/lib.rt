@@ -17,7 +17,7 @@ ghost use Rattle.sections.specs.Base.{base_sections, base_entries_in, base_own};
 use mps::layout;
 
 // Where the entries of each type begin, from the first byte behind the header; processors begin there.
-#[derive(Drop)]
+#[derive(Clone, Copy)]
 pub enum BaseSections {
     Ascending {
         buses: usize,
