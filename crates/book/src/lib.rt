@@ -7,6 +7,8 @@
 //
 // One pass goes over rows and bodies together and judges each body once; then `rows` tells whether the
 // editions run.
+#![tactic(auto)]
+
 ghost use Rattle.std.specs.Prelude.{◌≡◌, true, ◌≤◌, ◌+◌, ◌*◌, length};
 ghost use Rattle.std.proofs.lemmas.List.Edits.{sets};
 ghost use Rattle.mps.specs.Layout.{book_most, book_head, book_row};

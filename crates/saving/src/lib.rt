@@ -6,6 +6,8 @@
 //
 // Everything is tested before the first byte is written. Then the new body is put where it shall stand, behind the book, and
 // the old ones move up by one row, the last byte first: no second buffer is needed.
+#![tactic(auto)]
+
 ghost use Rattle.std.specs.Prelude.{◌≡◌, ◌+◌, ◌*◌, ◌^◌, ◌<◌, ◌≤◌, length};
 ghost use Rattle.std.proofs.lemmas.List.Edits.{sets};
 ghost use Rattle.mps.specs.Layout.{book_most, book_head, book_row};
