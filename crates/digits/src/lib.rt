@@ -2,10 +2,13 @@
 //
 // Promised of any number: `hex` answers the digit that shows its lowest four bits, `hex_digit` of mps's specs/Listing.antt.
 // No public function has a `requires`.
+#![tactic(auto)]
+
 ghost use Rattle.std.specs.Prelude.{◌≡◌, ◌%◌};
 ghost use Rattle.mps.specs.Listing.{hex_digit};
 
 // A `match` of constants becomes a table and one load.
+#[tactic(auto, unfolding(mps::specs::Listing::hex_digit))]
 pub fn hex(d: u8) -> u8
     ensures { result ≡ hex_digit (d % 16) }
 {

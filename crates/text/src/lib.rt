@@ -4,6 +4,8 @@
 // Promised of any number and any bytes: `width` answers `decimal_width`, and `kept` how long `unpadded` is, both of mps's
 // specs/Listing.antt. `ended`, a word and the byte behind it, stands in specs/Text.antt. No public function has a `requires`.
 // The laws that callers cite stand in proofs/Laws.antt.
+#![tactic(auto)]
+
 ghost use Rattle.std.specs.Prelude.{◌≡◌, ◌≤◌, length, leb};
 ghost use Rattle.mps.specs.Words.{flag};
 ghost use Rattle.mps.specs.Listing.{decimal_width, unpadded};
