@@ -5,6 +5,8 @@
 // over the rows needs.
 //
 // Every row is read where it stands, as often as it is needed: no array of regions is filled, and none is copied.
+#![tactic(auto)]
+
 ghost use Rattle.std.specs.Prelude.{◌≡◌, ◌+◌, ◌*◌, ◌≤◌, ◌<◌, length};
 ghost use Rattle.mps.specs.Words.{any};
 ghost use Rattle.mps.specs.Layout.{regions_most, region_count, row_length};

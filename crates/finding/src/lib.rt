@@ -6,6 +6,8 @@
 //
 // The rows of the dump are read again for each search. Only the search for the table's region has them as records, which
 // are lent to it as a slice.
+#![tactic(auto)]
+
 ghost use Rattle.std.specs.Prelude.{◌≡◌, cond, true, ◌+◌, ◌*◌, ◌≤◌, length};
 ghost use Rattle.mps.specs.Words.{keep};
 ghost use Rattle.mps.specs.Layout.{regions_most, region_count, row_length, memory_end};

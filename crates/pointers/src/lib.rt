@@ -5,6 +5,8 @@
 //
 // Paragraphs of sixteen bytes are passed over four at a time up to the first signature; from there on each is looked at by
 // itself, and only one that begins with the signature is added up.
+#![tactic(auto)]
+
 ghost use Rattle.std.specs.Prelude.{◌≡◌, false, ◌+◌, ◌≤◌, length, drop};
 ghost use Rattle.mps.specs.Words.{cut};
 ghost use Rattle.mps.specs.Layout.{pointer_size};
