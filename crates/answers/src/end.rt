@@ -1,5 +1,5 @@
 // Why no further request is answered, as a number, and the line that says so.
-use libc::STDERR_FILENO;
+use std::io::Write;
 
 // Another request may follow.
 pub const NONE: u8 = 0;
@@ -15,35 +15,29 @@ pub const TOO_LONG: u8 = 4;
 
 pub const NOT_WRITTEN: u8 = 5;
 
-// A read gave no byte behind n bytes.
-pub fn of_input(got: isize, n: usize) -> u8 {
-    if n == 0 {
-        if got == 0 {
-            return INPUT;
-        }
-    }
-    CUT_SHORT
+// The input ended behind n bytes.
+pub fn of_input(n: usize) -> u8 {
+    if n == 0 { INPUT } else { CUT_SHORT }
 }
 
-fn unanswered(number: u64, why: &[u8]) {
-    io::write_all(STDERR_FILENO, b"answers: request ");
-    io::print_decimal(STDERR_FILENO, number);
-    io::write_all(STDERR_FILENO, why);
+// Where standard error fails too, there is no place to say it.
+fn unanswered<W: Write>(to: &mut W, number: u64, why: &str) {
+    let _ = writeln!(to, "answers: request {number} {why}");
 }
 
-pub fn say(why: u8, number: u64) {
+pub fn say<W: Write>(to: &mut W, why: u8, number: u64) {
     match why {
         CUT_SHORT => {
-            unanswered(number, b" is cut short\n");
+            unanswered(to, number, "is cut short");
         }
         UNKNOWN_KIND => {
-            unanswered(number, b" is of an unknown kind\n");
+            unanswered(to, number, "is of an unknown kind");
         }
         TOO_LONG => {
-            unanswered(number, b" has a slice that is too long\n");
+            unanswered(to, number, "has a slice that is too long");
         }
         NOT_WRITTEN => {
-            io::write_all(STDERR_FILENO, b"answers: cannot write\n");
+            let _ = writeln!(to, "answers: cannot write");
         }
         _ => {}
     }

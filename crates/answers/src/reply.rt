@@ -3,11 +3,11 @@ ghost use Rattle.std.specs.Prelude.{◌≡◌, [], ◌∷◌, ◌≤◌, length}
 ghost use Rattle.answers.specs.Wire.{answer_of, fields_numbers, head_size};
 
 use crate::request;
-use libc::STDOUT_FILENO;
 use mps::Fields;
+use std::io::Write;
 
 // How many values there are, and the values; 0 behind the last.
-#[derive(Drop)]
+#[derive(Clone, Copy)]
 pub struct Answer {
     pub count: u8,
     pub values: [u64; 12],
@@ -73,7 +73,7 @@ fn put_values(out: &mut [u8], values: &[u64]) {
 }
 
 // All before the slices' bytes, in one write. The lengths are the request's.
-fn head(r: Answer, q: &[u8]) -> bool
+fn head<W: Write>(output: &mut W, r: Answer, q: &[u8]) -> bool
     requires { (r.count ≤ 12) × (head_size ≡ length q.now) }
 {
     let mut out = [0; HEAD_MOST];
@@ -84,17 +84,19 @@ fn head(r: Answer, q: &[u8]) -> bool
     let lengths = &q[request::LENGTHS..];
     slices::copy(&mut out, end, lengths);
     let whole = end + lengths.len();
-    io::write_all(STDOUT_FILENO, &out[0..whole])
+    output.write_all(&out[0..whole]).is_ok()
 }
 
-// Whether all of it was written: the head, and the slices as the call left them.
-pub fn written(r: Answer, q: &[u8], a: &[u8], m: &[u8], e: &[u8]) -> bool
+// Whether all of it was written: the head, and the slices as the call left them. No byte of it waits for the next answer.
+pub fn written<W: Write>(output: &mut W, r: Answer, q: &[u8], a: &[u8], m: &[u8], e: &[u8]) -> bool
     requires { (r.count ≤ 12) × (head_size ≡ length q.now) }
 {
-    if head(r, q) {
-        if io::write_all(STDOUT_FILENO, a) {
-            if io::write_all(STDOUT_FILENO, m) {
-                return io::write_all(STDOUT_FILENO, e);
+    if head(output, r, q) {
+        if output.write_all(a).is_ok() {
+            if output.write_all(m).is_ok() {
+                if output.write_all(e).is_ok() {
+                    return output.flush().is_ok();
+                }
             }
         }
     }

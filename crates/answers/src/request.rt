@@ -3,7 +3,7 @@ ghost use Rattle.std.specs.Prelude.{◌≡◌, ◌+◌, ◌*◌, ◌<◌, ◌^�
 ghost use Rattle.answers.specs.Wire.{length_of, middle_of};
 
 use crate::end;
-use libc::STDIN_FILENO;
+use std::io::Read;
 
 // Behind the kind stand eight numbers, of eight bytes each.
 const NUMBERS: usize = 1;
@@ -18,13 +18,14 @@ pub const MOST: usize = 2097152;
 
 // Reads until buf is full, and no byte more. A pipe may give its bytes in pieces of any size. A failed read cuts a
 // request short, even before its first byte.
-pub fn fill(buf: &mut [u8]) -> u8 {
+pub fn fill<R: Read>(input: &mut R, buf: &mut [u8]) -> u8 {
     let mut n = 0;
     while n < buf.len() {
-        let got = libc::read(STDIN_FILENO, &mut buf[n..]);
-        let more = io::count(got, &buf[n..]);
+        let Ok(more) = input.read(&mut buf[n..]) else {
+            return end::CUT_SHORT;
+        };
         if more == 0 {
-            return end::of_input(got, n);
+            return end::of_input(n);
         }
         n += more;
     }
@@ -32,10 +33,10 @@ pub fn fill(buf: &mut [u8]) -> u8 {
 }
 
 // Whether the slices came whole; the first, the three in the middle, and the last.
-pub fn filled(a: &mut [u8], m: &mut [u8], e: &mut [u8]) -> bool {
-    if fill(a) == end::NONE {
-        if fill(m) == end::NONE {
-            return fill(e) == end::NONE;
+pub fn filled<R: Read>(input: &mut R, a: &mut [u8], m: &mut [u8], e: &mut [u8]) -> bool {
+    if fill(input, a) == end::NONE {
+        if fill(input, m) == end::NONE {
+            return fill(input, e) == end::NONE;
         }
     }
     false

@@ -4,6 +4,8 @@
 // other; bytes that are left at the end and are no whole entry are not looked at. Promised of any roll and any bytes:
 // `wrong_processors` answers `wrong_processors_in` and `wrong_io_apics` whether the call `io_apic_call` finds a wrong one; each
 // leaves the roll that its call leaves. The calls stand in specs/Apics.antt.
+#![tactic(auto)]
+
 ghost use Rattle.std.specs.Prelude.{◌≡◌, ◌+◌, ◌≤◌, length, take, drop};
 ghost use Rattle.mps.specs.Layout.{processor_size, entry_size};
 ghost use Rattle.mps.specs.Sections.{rows};

@@ -5,6 +5,8 @@
 // call of specs/Buses.antt over the roll does, `is_listed` answers whether a bus is among the IDs, `is_pci` whether it is among
 // those of PCI buses, and `pci` leaves those on the roll. proofs/Laws.antt says what the call means in the words of the rule,
 // and what the roll then shows.
+#![tactic(auto)]
+
 ghost use Rattle.std.specs.Prelude.{◌*◌, ◌≤◌, ◌≡◌, length, drop};
 ghost use Rattle.mps.specs.Words.{among, keep, each};
 ghost use Rattle.mps.specs.Layout.{entry_size, id_of};

@@ -1,4 +1,4 @@
-// The calls for C: the proved library under plain names, for a static library (`rt staticlib exports`).
+// The calls for C: the proved library under plain names, as exports_c has them for C.
 //
 // include/ruxtajma.h has the prototypes, what a caller lends, and how an answer is taken apart. Promised of any bytes: each
 // call answers what the call of the library does, as one number, and leaves what was lent as that call leaves it. Which
@@ -9,6 +9,8 @@
 // Nothing is lost: of every answer that a call can give, C takes out the numbers that mps's specs/Answers.antt has for it.
 // proofs/Told.antt proves it, a theorem for each call. A function below cuts each value to its width, and so needs to know
 // nothing of the call that its answer comes from; that nothing is there to cut is part of the same theorems.
+#![tactic(auto)]
+
 ghost use Rattle.std.specs.Prelude.{◌≡◌, ◌+◌, ◌-◌, ◌*◌, ◌%◌, ◌^◌};
 ghost use Rattle.mps.specs.Judge.{judged, held};
 ghost use Rattle.mps.specs.Listing.{listed, list_left};
@@ -192,22 +194,19 @@ fn addresses_code(answer: Held) -> u64
 
 // ---- Of a table
 
-#[unsafe(no_mangle)]
-pub extern "C" fn ruxtajma_judge(t: &[u8]) -> u64
+pub fn ruxtajma_judge(t: &[u8]) -> u64
     ensures { result ≡ judged_code (judged t.now) }
 {
     judge::refusal(t) as u64
 }
 
-#[unsafe(no_mangle)]
-pub extern "C" fn ruxtajma_parts(t: &[u8]) -> u64
+pub fn ruxtajma_parts(t: &[u8]) -> u64
     ensures { result ≡ parted_code (parted t.now) }
 {
     parted_code(writer::parts(t))
 }
 
-#[unsafe(no_mangle)]
-pub extern "C" fn ruxtajma_entry(t: &[u8], place: usize) -> u64
+pub fn ruxtajma_entry(t: &[u8], place: usize) -> u64
     ensures { result ≡ found_code (found t.now place) }
 {
     found_code(reader::entry(t, place))
@@ -215,30 +214,26 @@ pub extern "C" fn ruxtajma_entry(t: &[u8], place: usize) -> u64
 
 // ---- Of a dump
 
-#[unsafe(no_mangle)]
-pub extern "C" fn ruxtajma_read(d: &[u8]) -> u64
+pub fn ruxtajma_read(d: &[u8]) -> u64
     ensures { result ≡ held_code (held d.now) }
 {
     held_code(dump::read(d))
 }
 
-#[unsafe(no_mangle)]
-pub extern "C" fn ruxtajma_addresses(d: &[u8]) -> u64
+pub fn ruxtajma_addresses(d: &[u8]) -> u64
     ensures { result ≡ addresses_code (held d.now) }
 {
     addresses_code(dump::read(d))
 }
 
-#[unsafe(no_mangle)]
-pub extern "C" fn ruxtajma_list(d: &[u8], room: &mut [u8]) -> u64
+pub fn ruxtajma_list(d: &[u8], room: &mut [u8]) -> u64
     ensures value { result ≡ lent_code (listed d.now room.old) }
     ensures room_after { room.new ≡ list_left d.now room.old }
 {
     lent_code(listing::list(d, room))
 }
 
-#[unsafe(no_mangle)]
-pub extern "C" fn ruxtajma_list_full(d: &[u8], boot: u8, room: &mut [u8]) -> u64
+pub fn ruxtajma_list_full(d: &[u8], boot: u8, room: &mut [u8]) -> u64
     ensures value { result ≡ lent_code (full_listed d.now boot room.old) }
     ensures room_after { room.new ≡ full_left d.now boot room.old }
 {
@@ -247,8 +242,7 @@ pub extern "C" fn ruxtajma_list_full(d: &[u8], boot: u8, room: &mut [u8]) -> u64
 
 // ---- Of a default configuration
 
-#[unsafe(no_mangle)]
-pub extern "C" fn ruxtajma_default_table(number: u8, boot: u8, room: &mut [u8]) -> u64
+pub fn ruxtajma_default_table(number: u8, boot: u8, room: &mut [u8]) -> u64
     ensures value { result ≡ lent_code (made number boot room.old) }
     ensures room_after { room.new ≡ make_left number boot room.old }
 {
@@ -257,60 +251,42 @@ pub extern "C" fn ruxtajma_default_table(number: u8, boot: u8, room: &mut [u8]) 
 
 // ---- Queries
 
-#[unsafe(no_mangle)]
-pub extern "C" fn ruxtajma_io_routes(t: &[u8], itype: u8, bus: u8, irq: u8, room: &mut [u8]) -> u64
+pub fn ruxtajma_io_routes(t: &[u8], itype: u8, bus: u8, irq: u8, room: &mut [u8]) -> u64
     ensures value { result ≡ lent_code (routed (question io_side itype bus irq) t.now room.old) }
     ensures room_after { room.new ≡ routes_left (question io_side itype bus irq) t.now room.old }
 {
     lent_code(routes::io(t, itype, bus, irq, room))
 }
 
-#[unsafe(no_mangle)]
-pub extern "C" fn ruxtajma_local_routes(
-    t: &[u8],
-    itype: u8,
-    bus: u8,
-    irq: u8,
-    room: &mut [u8],
-) -> u64
+pub fn ruxtajma_local_routes(t: &[u8], itype: u8, bus: u8, irq: u8, room: &mut [u8]) -> u64
     ensures value { result ≡ lent_code (routed (question local_side itype bus irq) t.now room.old) }
     ensures room_after { room.new ≡ routes_left (question local_side itype bus irq) t.now room.old }
 {
     lent_code(routes::local(t, itype, bus, irq, room))
 }
 
-#[unsafe(no_mangle)]
-pub extern "C" fn ruxtajma_slot_routes(
-    t: &[u8],
-    bus: u8,
-    device: u8,
-    pin: u8,
-    room: &mut [u8],
-) -> u64
+pub fn ruxtajma_slot_routes(t: &[u8], bus: u8, device: u8, pin: u8, room: &mut [u8]) -> u64
     ensures value { result ≡ lent_code (slot_routed (slot bus device pin) t.now room.old) }
     ensures room_after { room.new ≡ slot_routes_left (slot bus device pin) t.now room.old }
 {
     lent_code(routes::slot(t, bus, device, pin, room))
 }
 
-#[unsafe(no_mangle)]
-pub extern "C" fn ruxtajma_slots(t: &[u8], room: &mut [u8]) -> u64
+pub fn ruxtajma_slots(t: &[u8], room: &mut [u8]) -> u64
     ensures value { result ≡ lent_code (slots_listed t.now room.old) }
     ensures room_after { room.new ≡ slots_left t.now room.old }
 {
     lent_code(slots::list(t, room))
 }
 
-#[unsafe(no_mangle)]
-pub extern "C" fn ruxtajma_renumber(t: &[u8], room: &mut [u8]) -> u64
+pub fn ruxtajma_renumber(t: &[u8], room: &mut [u8]) -> u64
     ensures value { result ≡ renumbered_code (renumbered t.now room.old) }
     ensures room_after { room.new ≡ renumber_left t.now room.old }
 {
     renumbered_code(renumbering::renumber(t, room))
 }
 
-#[unsafe(no_mangle)]
-pub extern "C" fn ruxtajma_address(t: &[u8], bus: u8, kind: u8, address: u64) -> u64
+pub fn ruxtajma_address(t: &[u8], bus: u8, kind: u8, address: u64) -> u64
     ensures { result ≡ seen_code (seen t.now bus kind address) }
 {
     seen_code(addresses::seen(t, bus, kind, address))
@@ -318,8 +294,7 @@ pub extern "C" fn ruxtajma_address(t: &[u8], bus: u8, kind: u8, address: u64) ->
 
 // ---- Writing and editing
 
-#[unsafe(no_mangle)]
-pub extern "C" fn ruxtajma_write(
+pub fn ruxtajma_write(
     oem: &[u8],
     product: &[u8],
     pointer: u32,
@@ -348,8 +323,7 @@ pub extern "C" fn ruxtajma_write(
     lent_code(writer::write(fields, base, extended, room))
 }
 
-#[unsafe(no_mangle)]
-pub extern "C" fn ruxtajma_edit(t: &mut [u8], place: usize, stated: &[u8], wanted: &[u8]) -> u64
+pub fn ruxtajma_edit(t: &mut [u8], place: usize, stated: &[u8], wanted: &[u8]) -> u64
     ensures value { result ≡ edited_code (edited t.old (edit_of place stated.now wanted.now)) }
     ensures t_after { t.new ≡ edit_left t.old (edit_of place stated.now wanted.now) }
 {
@@ -358,45 +332,39 @@ pub extern "C" fn ruxtajma_edit(t: &mut [u8], place: usize, stated: &[u8], wante
 
 // ---- The book of earlier tables
 
-#[unsafe(no_mangle)]
-pub extern "C" fn ruxtajma_book(s: &[u8]) -> u64
+pub fn ruxtajma_book(s: &[u8]) -> u64
     ensures { result ≡ booked_code (booked layout1 s.now) }
 {
     booked_code(book::measure(s))
 }
 
-#[unsafe(no_mangle)]
-pub extern "C" fn ruxtajma_latest(s: &[u8], machine: u16) -> u64
+pub fn ruxtajma_latest(s: &[u8], machine: u16) -> u64
     ensures { result ≡ latest_code (latest_told layout1 s.now machine) }
 {
     latest_code(book::latest(s, machine))
 }
 
-#[unsafe(no_mangle)]
-pub extern "C" fn ruxtajma_body(s: &[u8], machine: u16, edition: u16) -> u64
+pub fn ruxtajma_body(s: &[u8], machine: u16, edition: u16) -> u64
     ensures { result ≡ body_code (body_told layout1 s.now machine edition) }
 {
     body_code(book::body(s, machine, edition))
 }
 
-#[unsafe(no_mangle)]
-pub extern "C" fn ruxtajma_history(s: &[u8], room: &mut [u8]) -> u64
+pub fn ruxtajma_history(s: &[u8], room: &mut [u8]) -> u64
     ensures value { result ≡ lent_code (history_told layout1 s.now room.old) }
     ensures room_after { room.new ≡ history_left layout1 s.now room.old }
 {
     lent_code(book::history(s, room))
 }
 
-#[unsafe(no_mangle)]
-pub extern "C" fn ruxtajma_save(room: &mut [u8], machine: u16, began: u16, body: &[u8]) -> u64
+pub fn ruxtajma_save(room: &mut [u8], machine: u16, began: u16, body: &[u8]) -> u64
     ensures value { result ≡ booked_code (added layout1 room.old (save machine began body.now)) }
     ensures room_after { room.new ≡ add_left layout1 room.old (save machine began body.now) }
 {
     booked_code(saving::save(room, machine, began, body))
 }
 
-#[unsafe(no_mangle)]
-pub extern "C" fn ruxtajma_restore(room: &mut [u8], machine: u16, edition: u16, latest: u16) -> u64
+pub fn ruxtajma_restore(room: &mut [u8], machine: u16, edition: u16, latest: u16) -> u64
     ensures value { result ≡ booked_code (added layout1 room.old (restore machine edition latest)) }
     ensures room_after { room.new ≡ add_left layout1 room.old (restore machine edition latest) }
 {

@@ -6,6 +6,8 @@
 //
 // The code goes over the runs of the three known types as the walk over the base does (`sections`), and compares the types of
 // those behind them only.
+#![tactic(auto)]
+
 ghost use Rattle.std.specs.Prelude.{◌≡◌, ◌≤◌, length, drop};
 ghost use Rattle.mps.specs.Layout.{mapping_type, modifier_type, extended_entry_length};
 ghost use Rattle.mps.specs.Table.{extended_from};
@@ -15,7 +17,7 @@ ghost use Rattle.extension.specs.Extended.{extended_sections, extended_entries_i
 use mps::layout;
 
 // Where the entries of each type begin, from the first extended byte; mappings begin there.
-#[derive(Drop)]
+#[derive(Clone, Copy)]
 pub enum ExtendedSections {
     Ascending {
         links: usize,

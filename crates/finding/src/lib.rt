@@ -20,7 +20,7 @@ use pointers::Searched;
 use regions::BLANK;
 
 // Where the first good pointer was met: its address, and its first byte's place in the dump.
-#[derive(Drop)]
+#[derive(Clone, Copy)]
 enum Spotted {
     At { address: u32, place: usize },
     Nowhere,

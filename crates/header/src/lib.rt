@@ -3,6 +3,8 @@
 // Promised of any bytes: `refusal` answers the number of the first of the rows 5 to 9 that is so, and `wrong_extended`
 // whether the extended part is too long, past the buffer or wrongly summed (`wrong_extended_part`). The definitions stand in
 // mps's specs/Table.antt; specs/Header.antt takes the rows 5 to 9 out of those of the table.
+#![tactic(auto)]
+
 ghost use Rattle.std.specs.Prelude.{◌≡◌, ◌≤◌, length};
 ghost use Rattle.mps.specs.Layout.{header_size, base_length};
 ghost use Rattle.mps.specs.Refusals.{refusal as refusalOf};

@@ -3,6 +3,8 @@
 // Promised: `wrong_io` and `wrong_local` answer whether some entry is `wrong_interrupt_in`, of any bytes and any roll. The
 // definition stands in specs/Interrupts.antt. Where the roll has the listed buses, and the listed I/O APICs or processors
 // with 255 beside them, it is the rule of mps, entry by entry: proofs/Laws.antt.
+#![tactic(auto)]
+
 ghost use Rattle.std.specs.Prelude.{◌≡◌, ◌+◌, ◌%◌, ◌≤◌, length, take, drop};
 ghost use Rattle.mps.specs.Words.{any};
 ghost use Rattle.mps.specs.Layout.{entry_size, local_input_most};

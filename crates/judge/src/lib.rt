@@ -8,6 +8,8 @@
 // The tests are made in the order of the numbers, each over the bytes that it speaks of and no others: the header, the
 // walks, then the entries of one type after the other, with the roll of the IDs that the rules before have met. No byte is
 // looked at more than a fixed number of times.
+#![tactic(auto)]
+
 ghost use Rattle.std.specs.Prelude.{◌≡◌};
 ghost use Rattle.mps.specs.Layout.{processor_type, bus_type};
 ghost use Rattle.mps.specs.Refusals.{refusal as refusalOf};

@@ -7,14 +7,16 @@
 // few lines below, and run by .ci/shelf. Where the system reports a failure, a line on standard error says so; the exit
 // status is 0 all the same, as a `main` returns nothing.
 //
-// A call that a signal interrupted counts as failed. This program catches no signal, so no read or write of a file, a
-// pipe or a terminal is interrupted; to ask why a call failed would mean one more function in C to be trusted.
+// A read that a signal interrupted counts as failed. This program catches no signal, so no read or write of a file, a
+// pipe or a terminal is interrupted.
+#![tactic(auto)]
+
 ghost use Rattle.std.specs.Prelude.{◌≡◌, ◌≤◌, length, take};
 ghost use Rattle.mps.specs.Listing.{program_output};
 ghost use Rattle.mplist.specs.Input.{Within};
 
-use libc::{STDERR_FILENO, STDIN_FILENO, STDOUT_FILENO};
 use mps::Lent;
+use std::io::{Read, Write};
 
 // How many bytes came before the input ended or the buffer was full.
 #[derive(Drop)]
@@ -31,17 +33,22 @@ fn dump_buffer() -> [u8; 65537]
     [0; 65537]
 }
 
+// Room for every listing. The `ensures` gives only the length, as that of `dump_buffer`.
+fn listing_room() -> [u8; 65536]
+    ensures { 65536 ≡ length result }
+{
+    [0; 65536]
+}
+
 // Reads until the input ends or buf is full. A pipe may give its bytes in pieces of any size.
-fn read_all(buf: &mut [u8]) -> Input
+fn read_all<R: Read>(input: &mut R, buf: &mut [u8]) -> Input
     ensures { Within buf.new result }
 {
     let mut n = 0;
     while n < buf.len() {
-        let got = libc::read(STDIN_FILENO, &mut buf[n..]);
-        if got < 0 {
+        let Ok(more) = input.read(&mut buf[n..]) else {
             return Input::Failed;
-        }
-        let more = io::count(got, &buf[n..]);
+        };
         if more == 0 {
             return Input::Bytes(n);
         }
@@ -50,12 +57,9 @@ fn read_all(buf: &mut [u8]) -> Input
     Input::Bytes(n)
 }
 
-fn cannot_read() {
-    io::write_all(STDERR_FILENO, b"mplist: cannot read the dump\n");
-}
-
-fn cannot_write() {
-    io::write_all(STDERR_FILENO, b"mplist: cannot write the listing\n");
+// Where standard error fails too, there is no place to say it.
+fn say<W: Write>(to: &mut W, line: &[u8]) {
+    let _ = to.write_all(line);
 }
 
 // All that is to be written for the bytes of d, at the start of the room; answers how many bytes that is. The room is
@@ -71,23 +75,23 @@ fn answer(d: &[u8], room: &mut [u8]) -> usize
     }
 }
 
-fn write_listing(d: &[u8]) {
-    let mut room = io::large_buffer();
+fn write_listing(rt: HostRuntime, d: &[u8]) {
+    let mut room = listing_room();
     let n = answer(d, &mut room);
-    if !io::write_all(STDOUT_FILENO, &room[..n]) {
-        cannot_write();
+    if rt.stdout().write_all(&room[..n]).is_err() {
+        say(&mut rt.stderr(), b"mplist: cannot write the listing\n");
     }
 }
 
-fn main() {
+fn main(rt: HostRuntime) {
     let mut buffer = dump_buffer();
-    let input = read_all(&mut buffer);
+    let input = read_all(&mut rt.stdin(), &mut buffer);
     match input {
         Input::Bytes(n) => {
-            write_listing(&buffer[..n]);
+            write_listing(rt, &buffer[..n]);
         }
         Input::Failed => {
-            cannot_read();
+            say(&mut rt.stderr(), b"mplist: cannot read the dump\n");
         }
     }
 }

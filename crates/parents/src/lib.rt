@@ -4,6 +4,8 @@
 // Promised: `wrong` answers `wrong_links` of specs/Parents.antt, of any bytes and any roll. It takes time linear in
 // them: a link whose climb has ended is taken away, and the first climb that does not end is the last.
 // The entries stand one behind the other, 8 bytes each; bytes behind the last whole one are passed over.
+#![tactic(auto)]
+
 ghost use Rattle.std.specs.Prelude.{◌≡◌, false, ◌+◌, ◌≤◌, ◌<◌, length, take, drop};
 ghost use Rattle.mps.specs.Layout.{link_size};
 ghost use Rattle.mps.specs.Sections.{rows};

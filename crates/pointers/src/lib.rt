@@ -13,7 +13,7 @@ ghost use Rattle.pointers.specs.Search.{first_good, search_of};
 
 use mps::layout;
 
-#[derive(Drop)]
+#[derive(Clone, Copy)]
 pub enum Searched {
     At(usize),
     Nothing,

@@ -17,7 +17,7 @@ use mps::{Found, layout};
 
 // ---- A reader: the lent table, and any place
 
-#[derive(Drop)]
+#[derive(Clone, Copy)]
 pub struct Reader<'a> {
     pub table: &'a [u8],
     pub place: usize,

@@ -1,13 +1,13 @@
 -- Laws of the search for the region that holds an address: the place of the first that does. Assumes nothing.
 use Prim.Native.Nat.{ℕ, suc, ◌+◌, ◌≤◌, ◌<◌}
-use mathlib.Core.Path.{◌≡◌, refl, sym}
-use mathlib.Core.Bool.{Bool, true, false, not, ◌&&◌}
+use mathlib.Core.Path.{◌≡◌, refl}
+use mathlib.Core.Bool.{Bool, true, false, ◌&&◌}
 use mathlib.Core.List.{List, [], ◌∷◌}
 use native.Mathlib.Omega.{arith}
 use native.Mathlib.Numerals.{add-one}
 use lib.ListN.{length, get_or, take, drop, drop_of_length-le}
 use lib.Seq.{take_all, drop-cons}
-use lib.Dec.{T, leb, ltb}
+use lib.Dec.{leb, ltb}
 use Rattle.mps.specs.Words.{keep}
 use Rattle.mps.specs.Dump.{holds, no_region, holding}
 use Rattle.mps.specs.declared.Region.{Region}
@@ -28,19 +28,15 @@ module _ (address : ℕ) (rs : List Region) (i : ℕ) where
   unfolding place_holding
   search_end h = rw drop_of_length-le
 
-  -- b is what the test answered.
   module _ (h : i < length rs) where
-    pub search_hit : (b : Bool) → b ≡ tested → T b → place_holding address (drop i rs) ≡ 0
+    pub search_hit : tested ≡ true → place_holding address (drop i rs) ≡ 0
     unfolding place_holding holds
-    search_hit true e t = rw (drop-cons rs i blank h, place_holding, sym e)
-    search_hit false e t = absurd t
+    search_hit e = rw (drop-cons rs i blank h, place_holding, e)
 
     pub search_miss :
-        (b : Bool) → b ≡ tested → T (not b)
-        → place_holding address (drop i rs) ≡ suc (place_holding address (drop (i + 1) rs))
+        tested ≡ false → place_holding address (drop i rs) ≡ suc (place_holding address (drop (i + 1) rs))
     unfolding place_holding holds
-    search_miss true e t = absurd t
-    search_miss false e t = rw (add-one i, drop-cons rs i blank h, place_holding, sym e)
+    search_miss e = rw (add-one i, drop-cons rs i blank h, place_holding, e)
 
 -- ---- The region at the place
 

@@ -7,9 +7,9 @@
 //
 // Who passes along the rows of a dump reads each row where it stands: eight records by value are 192 bytes, copied at each
 // call. They are made for the search for an address only, which goes over a lent slice of records. A record that is not
-// filled is blank: it has kind 0 and no byte, so the search passes it over, and no count goes with the array. The borrow
-// checker covers no function with such a slice, so `place_of` and `place_in`, which lends it, are proved by hand, and both
-// are thin.
+// filled is blank: it has kind 0 and no byte, so the search passes it over, and no count goes with the array.
+#![tactic(auto)]
+
 ghost use Rattle.std.specs.Prelude.{◌≡◌, ◌+◌, ◌<◌, ◌&&◌, take, leb, ltb};
 ghost use Rattle.mps.specs.Dump.{holding as holdingOf};
 ghost use Rattle.regions.specs.Regions.{row_of, place_holding};
@@ -65,7 +65,7 @@ pub fn place_of(rs: &[Region], address: u32) -> usize
     i
 }
 
-// The regions lent to that search: its parameters are plain, so a caller of this one is covered.
+// The regions lent to that search.
 pub fn place_in(rs: [Region; 8], address: u32) -> usize
     ensures { result ≡ place_holding address rs }
 {

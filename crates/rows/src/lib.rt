@@ -9,6 +9,8 @@
 // gone over once and linked in 4,096 chains, the last one first, so that the row before of a machine is found without going
 // over all rows. The searches of one machine pass no row twice, and only 16 of the 65,536 machines share a chain: so no row is
 // passed more than 16 times, whatever machines a book has.
+#![tactic(auto)]
+
 ghost use Rattle.std.specs.Prelude.{◌≤◌, ◌<◌, ◌≡◌, ◌&&◌, [], leb};
 ghost use Rattle.mps.specs.Layout.{book_rows};
 ghost use Rattle.mps.specs.Book.{latest as latest_of, layout1, rows_of, editions_run};

@@ -4,6 +4,8 @@
 // Promised: `size_of` answers `size_of`, the bytes of an entry of a known type. The definitions stand in specs/Runs.antt. What
 // the walks may use of runs stands in proofs/Runs.antt, of an accepted part in proofs/Walks.antt, and of the order in which its
 // entries stand in proofs/Order.antt: the same for the base entries (`sections`) and the extended ones (`extension`).
+#![tactic(auto)]
+
 ghost use Rattle.std.specs.Prelude.{◌≡◌};
 ghost use Rattle.runs.specs.Runs.{size_of};
 

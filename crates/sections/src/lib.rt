@@ -6,6 +6,8 @@
 //
 // Types ascend, so the entries of one type follow each other. The code goes over these runs and compares no entry with the
 // one before: the first faulty entry is one that no run took.
+#![tactic(auto)]
+
 ghost use Rattle.std.specs.Prelude.{◌≡◌, ◌≤◌, ◌<◌, length, drop};
 ghost use Rattle.mps.specs.Layout.{last_base_type, base_entry_length};
 ghost use Rattle.mps.specs.Table.{walk_from};
@@ -15,7 +17,7 @@ ghost use Rattle.sections.specs.Base.{base_sections, base_entries_in, base_own};
 use mps::layout;
 
 // Where the entries of each type begin, from the first byte behind the header; processors begin there.
-#[derive(Drop)]
+#[derive(Clone, Copy)]
 pub enum BaseSections {
     Ascending {
         buses: usize,

@@ -7,6 +7,8 @@
 // Each entry's tests are all made, by `|`: in a table that is accepted none of them is so, and nothing would be saved by
 // stopping at the first. Its wider numbers are read from a slice of the entry alone: the compiler knows how long that is,
 // and where it inlines the reading it drops the tests for the slice's end.
+#![tactic(auto)]
+
 ghost use Rattle.std.specs.Prelude.{◌≡◌, ◌+◌, ◌≤◌, length, take, drop, nat_lt};
 ghost use Rattle.mps.specs.Words.{any};
 ghost use Rattle.mps.specs.Layout.{space_end, mapping_size, link_size};

@@ -11,7 +11,7 @@ use Rattle.sets.proofs.lowest.Goals.{Then-free-ne0}
 
 pub loop-at-init : goal.loop-at-init
 loop-at-init c =
-    (lowest_first _ _, omega arith, omega (arith, c.first-1.given.0), omega (arith, c.second-1.given.0))
+    (lowest_first _ _, omega arith, c.first-1.given, c.second-1.given)
 
 pub offset_bounds-first-at : goal.offset_bounds-first-at
 offset_bounds-first-at c = omega (arith, c.loop-at-test.true, c.loop-at.invariant.2)

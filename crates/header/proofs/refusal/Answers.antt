@@ -1,0 +1,17 @@
+-- `refusal` meets its contract: 5 and 6 here, 7 to 9 by what `behind_signature` ensures.
+use Rattle.std.proofs.Common.{sym, ◌∙◌, arith}
+use Rattle.header.proofs.Laws.{signature_size, is_cut, is_unsigned, is_signed}
+use Rattle.header.proofs.refusal.Goals as goal
+
+pub returns-then-t-lt-HEADER_SIZE : goal.returns-then-t-lt-HEADER_SIZE
+returns-then-t-lt-HEADER_SIZE c = is_cut _ c.if-t-lt-HEADER_SIZE.true
+
+pub slice_bounds-same-end : goal.slice_bounds-same-end
+slice_bounds-same-end c = signature_size c.args.t.now c.if-t-lt-HEADER_SIZE.false
+
+pub returns-then-same : goal.returns-then-same
+returns-then-same c =
+    c.behind_signature.ensures ∙ is_signed _ (omega arith) (sym c.same.ensures ∙ c.if-same.true)
+
+pub returns : goal.returns
+returns c = is_unsigned _ (omega arith) (sym c.same.ensures ∙ c.if-same.false)
