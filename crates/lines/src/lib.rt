@@ -6,6 +6,8 @@
 //
 // Whether there is room is asked once a line. What then stores a word, a number or a byte of a name is private here, and
 // asks no more: that there is room is its `requires`.
+#![tactic(auto)]
+
 mod base; // the lines of base entries
 pub mod entry; // the line of an entry, by its type
 mod extended; // the lines of extended entries

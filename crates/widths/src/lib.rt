@@ -4,6 +4,8 @@
 // are those of mps's specs/Listing.antt; a byte that an entry lacks reads as 0. No public function has a `requires`.
 //
 // A line has its words and one byte behind each. What has one length in every line of a type is a number in its sum.
+#![tactic(auto)]
+
 ghost use Rattle.std.specs.Prelude.{◌≡◌, [], ◌≤◌, min, length, get_or};
 ghost use Rattle.mps.specs.Words.{bit};
 ghost use Rattle.mps.specs.Listing.{decimal as decimalOf, on_off, boot_ap, interrupt_name};

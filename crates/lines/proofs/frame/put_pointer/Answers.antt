@@ -1,0 +1,15 @@
+-- `pointer_is`, from what each word's call ensures.
+use native.Mathlib.Omega.{arith}
+use Rattle.lines.proofs.FrameLines.{pointer_is}
+use Rattle.mps.specs.Words.{text}
+use Rattle.text.specs.Text.{ended}
+use Rattle.lines.proofs.frame.put_pointer.Goals as goal
+
+pub returns : goal.returns
+unfolding ended text
+returns c =
+    let args = c.args in record {
+      wrote = pointer_is args.address args.imcr c.word-a.ensures.wrote c.hex8-b.ensures.wrote c.word-c.ensures.wrote
+          c.decimal.ensures.wrote;
+      upper_bound = omega arith;
+    }
