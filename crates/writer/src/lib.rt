@@ -5,6 +5,8 @@
 // accepted table gives its bytes again, and reading what was written the parts, is proved in promises.
 //
 // The image is laid where it shall stand, judged there, and made zero again where it is refused: no second buffer is needed.
+#![tactic(auto)]
+
 ghost use Rattle.std.specs.Prelude.{◌≡◌, ◌≤◌, length};
 ghost use Rattle.std.proofs.lemmas.List.Edits.{sets};
 ghost use Rattle.mps.specs.Words.{exactly};
