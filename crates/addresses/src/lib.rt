@@ -12,7 +12,7 @@ ghost use Rattle.std.specs.Prelude.{◌≡◌, ◌+◌, ◌≤◌, ◌<◌};
 ghost use Rattle.mps.specs.Layout.{mapping_size, link_size};
 ghost use Rattle.mps.specs.Sections.{rows};
 ghost use Rattle.mps.specs.Judge.{table_refusal};
-ghost use Rattle.mps.specs.Addresses.{answer, seen as isSeen};
+ghost use Rattle.mps.specs.Addresses.{answer, seen as is_seen};
 ghost use Rattle.mps.specs.declared.Seen.TheVariants.{Undeclared};
 ghost use Rattle.judge.specs.Placed.{Placed};
 ghost use Rattle.marks.specs.Marks.{meaning};
@@ -22,7 +22,7 @@ use marks::{DECLARED, FREE, PARENT, SEES, SILENT, UNDECLARED};
 use mps::{Examined, Sections, Seen, layout};
 
 pub fn seen(t: &[u8], bus: u8, kind: u8, address: u64) -> Seen
-    ensures { result ≡ isSeen t.now bus kind address }
+    ensures { result ≡ is_seen t.now bus kind address }
 {
     let found = judge::examine(t);
     match found {
@@ -34,7 +34,7 @@ pub fn seen(t: &[u8], bus: u8, kind: u8, address: u64) -> Seen
 // 24 and on, with the places of the table.
 fn behind_table(t: &[u8], p: Sections, bus: u8, kind: u8, address: u64) -> Seen
     requires { (table_refusal t.now ≡ 0) × (Placed t.now p) }
-    ensures { result ≡ isSeen t.now bus kind address }
+    ensures { result ≡ is_seen t.now bus kind address }
 {
     let start = p.buses;
     let end = p.ioapics;

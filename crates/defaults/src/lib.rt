@@ -6,6 +6,8 @@
 //
 // The base entries are laid in an array of the longest configuration's length and handed to the writer. That what it makes of
 // them is accepted is computed once, of all fourteen (board, `defaults_accepted`).
+#![tactic(auto)]
+
 ghost use Rattle.std.specs.Prelude.{◌≡◌, ◌++◌, ◌+◌, ◌*◌, ◌≤◌, length, eqb};
 ghost use Rattle.std.proofs.lemmas.List.Edits.{sets};
 ghost use Rattle.mps.specs.Words.{flag};
@@ -59,7 +61,7 @@ const LOCALS: [u8; 16] = *b"\x04\x03\x00\x00\x00\x00\xff\x00\x04\x01\x00\x00\x00
 
 pub fn make(number: u8, boot: u8, room: &mut [u8]) -> Lent
     ensures value { result ≡ made number boot room.old }
-    ensures room_after { room.new ≡ makeLeft number boot room.old }
+    ensures room_after { room.new ≡ make_left number boot room.old }
 {
     if number == 0 {
         return Lent::Refused(30);
@@ -91,8 +93,8 @@ fn lay(out: &mut [u8], number: u8, boot: u8) -> usize
 
 // The entries before the interrupts.
 fn put_front(out: &mut [u8], number: u8, boot: u8) -> usize
-    ensures value { (result ≡ length (frontLaid number boot)) × (result ≤ 64) }
-    ensures out_after { out.new ≡ sets out.old 0 (frontLaid number boot) }
+    ensures value { (result ≡ length (front_laid number boot)) × (result ≤ 64) }
+    ensures out_after { out.new ≡ sets out.old 0 (front_laid number boot) }
 {
     let apic = version(number);
     put_processors(out, apic, boot);
@@ -104,7 +106,7 @@ fn put_front(out: &mut [u8], number: u8, boot: u8) -> usize
 
 // The 82489DX in 1 to 4, the integrated APIC in 5 to 7.
 fn version(number: u8) -> u8
-    ensures { result ≡ apicOf number }
+    ensures { result ≡ apic_of number }
 {
     if number < 5 {
         return 0x01;
@@ -113,7 +115,7 @@ fn version(number: u8) -> u8
 }
 
 fn put_processors(out: &mut [u8], apic: u8, boot: u8)
-    ensures { out.new ≡ sets out.old 0 (processorEntry apic boot 0 ++ processorEntry apic boot 1) }
+    ensures { out.new ≡ sets out.old 0 (processor_entry apic boot 0 ++ processor_entry apic boot 1) }
 {
     let first = processor(apic, boot, 0);
     slices::copy(out, 0, &first);
@@ -122,7 +124,7 @@ fn put_processors(out: &mut [u8], apic: u8, boot: u8)
 }
 
 fn processor(apic: u8, boot: u8, id: u8) -> [u8; 20]
-    ensures { result ≡ processorEntry apic boot id }
+    ensures { result ≡ processor_entry apic boot id }
 {
     let mut e = [0; 20];
     e[layout::ENTRY_ID] = id;
@@ -144,8 +146,8 @@ fn flags(boot: u8, id: u8) -> u8
 // Table 5-1, "Bus Type". The bound on the place keeps sums below 2^64, here and below; a larger one would do as well.
 fn put_buses(out: &mut [u8], at: usize, number: u8) -> usize
     requires { at ≤ 1000 }
-    ensures value { result ≡ at + length (busesLaid number) }
-    ensures out_after { out.new ≡ sets out.old at (busesLaid number) }
+    ensures value { result ≡ at + length (buses_laid number) }
+    ensures out_after { out.new ≡ sets out.old at (buses_laid number) }
 {
     let first = first_bus(number);
     slices::copy(out, at, &first);
@@ -158,7 +160,7 @@ fn put_buses(out: &mut [u8], at: usize, number: u8) -> usize
 }
 
 fn first_bus(number: u8) -> [u8; 8]
-    ensures { result ≡ firstBus number }
+    ensures { result ≡ first_bus number }
 {
     match number {
         1 | 5 => ISA,
@@ -169,7 +171,7 @@ fn first_bus(number: u8) -> [u8; 8]
 
 // "An I/O APIC is present at base memory address 0FEC0_0000h."
 fn io_apic(apic: u8) -> [u8; 8]
-    ensures { result ≡ ioApicEntry apic }
+    ensures { result ≡ io_apic_entry apic }
 {
     [layout::IO_APIC_TYPE, 2, apic, 1, 0x00, 0x00, 0xc0, 0xfe]
 }
@@ -177,8 +179,8 @@ fn io_apic(apic: u8) -> [u8; 8]
 // Table 5-2. Answers the place behind the last entry.
 fn put_inputs(out: &mut [u8], at: usize, number: u8) -> usize
     requires { at ≤ 1000 }
-    ensures value { result ≡ at + length (inputsLaid number) }
-    ensures out_after { out.new ≡ sets out.old at (inputsLaid number) }
+    ensures value { result ≡ at + length (inputs_laid number) }
+    ensures out_after { out.new ≡ sets out.old at (inputs_laid number) }
 {
     match number {
         2 => put_inputs_of_2(out, at),
@@ -189,8 +191,8 @@ fn put_inputs(out: &mut [u8], at: usize, number: u8) -> usize
 
 fn put_all_inputs(out: &mut [u8], at: usize) -> usize
     requires { at ≤ 1000 }
-    ensures value { result ≡ at + length allInputs }
-    ensures out_after { out.new ≡ sets out.old at allInputs }
+    ensures value { result ≡ at + length all_inputs }
+    ensures out_after { out.new ≡ sets out.old at all_inputs }
 {
     let inputs = INPUTS;
     slices::copy(out, at, &inputs);

@@ -11,8 +11,8 @@
 ghost use Rattle.std.specs.Prelude.{◌≡◌, cond, true, ◌+◌, ◌*◌, ◌≤◌, length};
 ghost use Rattle.mps.specs.Words.{keep};
 ghost use Rattle.mps.specs.Layout.{regions_most, region_count, row_length, memory_end};
-ghost use Rattle.mps.specs.Dump.{regions as regionsOf, sound_dump, end_of};
-ghost use Rattle.mps.specs.Pointer.{candidates, good_one, pointers as pointersOf, pointer as pointer_of};
+ghost use Rattle.mps.specs.Dump.{regions as regions_of, sound_dump, end_of};
+ghost use Rattle.mps.specs.Pointer.{candidates, good_one, pointers as pointers_of, pointer as pointer_of};
 ghost use Rattle.mps.specs.Judge.{pointed};
 ghost use Rattle.regions.specs.Regions.{eight, first_of_kind};
 ghost use Rattle.finding.specs.Spotted.{searched_first, Spots, SpotsAt};
@@ -58,7 +58,7 @@ pub fn pointer(d: &[u8]) -> u32
 // The search, in its order.
 fn spot(d: &[u8]) -> Spotted
     requires { sound_dump d.now ≡ true }
-    ensures { Spots d.now (pointersOf d.now) result }
+    ensures { Spots d.now (pointers_of d.now) result }
 {
     let spotted = spot_in(d, searched_first(d));
     match spotted {
@@ -70,7 +70,7 @@ fn spot(d: &[u8]) -> Spotted
 // The EBDA and, only if none is listed, base memory.
 fn searched_first(d: &[u8]) -> Region
     requires { sound_dump d.now ≡ true }
-    ensures { result ≡ searched_first (regionsOf d.now) }
+    ensures { result ≡ searched_first (regions_of d.now) }
 {
     let r = of_kind(d, layout::EBDA);
     if r.kind == layout::EBDA {
@@ -90,7 +90,7 @@ fn listed(d: &[u8]) -> usize
 // The first region of a kind, a blank one where none is listed; a caller sees that by its kind.
 fn of_kind(d: &[u8], kind: u8) -> Region
     requires { sound_dump d.now ≡ true }
-    ensures { result ≡ first_of_kind kind (regionsOf d.now) }
+    ensures { result ≡ first_of_kind kind (regions_of d.now) }
 {
     let count = listed(d);
     let mut offset = 1 + layout::ROW_LENGTH * count;
@@ -126,7 +126,7 @@ fn spot_in(d: &[u8], r: Region) -> Spotted
 // All regions as records, for the search for an address.
 fn records(d: &[u8]) -> [Region; 8]
     requires { sound_dump d.now ≡ true }
-    ensures { result ≡ eight (regionsOf d.now) }
+    ensures { result ≡ eight (regions_of d.now) }
 {
     let count = listed(d);
     let mut rs = [BLANK; 8];
@@ -145,7 +145,7 @@ fn records(d: &[u8]) -> [Region; 8]
 // 3 and 4, and then what the pointer tells.
 fn said(d: &[u8], address: u32, place: usize) -> Held
     requires d_value { sound_dump d.now ≡ true }
-    requires spots_at { SpotsAt d.now (pointersOf d.now) address place }
+    requires spots_at { SpotsAt d.now (pointers_of d.now) address place }
     ensures { result ≡ pointed d.now }
 {
     let p = &d[place..place + layout::POINTER_SIZE];

@@ -7,7 +7,7 @@
 
 ghost use Rattle.std.specs.Prelude.{◌≡◌, ◌≤◌, length};
 ghost use Rattle.mps.specs.Layout.{header_size, base_length};
-ghost use Rattle.mps.specs.Refusals.{refusal as refusalOf};
+ghost use Rattle.mps.specs.Refusals.{refusal as refusal_of};
 ghost use Rattle.mps.specs.Table.{wrong_extended_part};
 ghost use Rattle.header.specs.Header.{base_rules, header_refusal};
 
@@ -29,7 +29,7 @@ pub fn refusal(t: &[u8]) -> u8
 // 7 to 9.
 fn behind_signature(t: &[u8], base: usize) -> u8
     requires { (base ≡ base_length t.now) × (header_size ≤ length t.now) }
-    ensures { result ≡ refusalOf (base_rules t.now) }
+    ensures { result ≡ refusal_of (base_rules t.now) }
 {
     if base < layout::HEADER_SIZE {
         return 7;

@@ -12,7 +12,7 @@
 
 ghost use Rattle.std.specs.Prelude.{◌≡◌};
 ghost use Rattle.mps.specs.Layout.{processor_type, bus_type};
-ghost use Rattle.mps.specs.Refusals.{refusal as refusalOf};
+ghost use Rattle.mps.specs.Refusals.{refusal as refusal_of};
 ghost use Rattle.mps.specs.Judge.{table_refusal, judged, examined};
 ghost use Rattle.judge.specs.Placed.{Placed};
 ghost use Rattle.judge.specs.Stages.{from14, from15, from16, from17, from18, Walked, Ready};
@@ -128,7 +128,7 @@ fn behind_walks(t: &[u8], p: Sections) -> Examined
 // of either kind.
 fn from_14(t: &[u8], p: Sections) -> u8
     requires { Placed t.now p }
-    ensures { result ≡ refusalOf (from14 t.now) }
+    ensures { result ≡ refusal_of (from14 t.now) }
 {
     let end = p.buses;
     if numbers::le32(t, layout::LOCAL_APIC) % layout::LOCAL_APIC_STEP != 0 {
@@ -146,7 +146,7 @@ fn from_14(t: &[u8], p: Sections) -> u8
 fn from_15(t: &[u8], p: Sections, roll: &mut [u8; 256]) -> u8
     requires placed { Placed t.now p }
     requires rolled { Rolled roll.old (listed processor_type t.now) nobody }
-    ensures { result ≡ refusalOf (from15 t.now) }
+    ensures { result ≡ refusal_of (from15 t.now) }
 {
     let start = p.buses;
     let end = p.ioapics;
@@ -160,7 +160,7 @@ fn from_15(t: &[u8], p: Sections, roll: &mut [u8; 256]) -> u8
 fn from_16(t: &[u8], p: Sections, roll: &mut [u8; 256]) -> u8
     requires placed { Placed t.now p }
     requires rolled { Rolled roll.old (listed processor_type t.now) (listed bus_type t.now) }
-    ensures { result ≡ refusalOf (from16 t.now) }
+    ensures { result ≡ refusal_of (from16 t.now) }
 {
     let start = p.ioapics;
     let end = p.interrupts;
@@ -175,7 +175,7 @@ fn from_16(t: &[u8], p: Sections, roll: &mut [u8; 256]) -> u8
 fn from_17(t: &[u8], p: Sections, roll: &[u8; 256]) -> u8
     requires placed { Placed t.now p }
     requires named { Named t.now roll.now }
-    ensures { result ≡ refusalOf (from17 t.now) }
+    ensures { result ≡ refusal_of (from17 t.now) }
 {
     let start = p.interrupts;
     let locals = p.locals;
@@ -193,7 +193,7 @@ fn from_17(t: &[u8], p: Sections, roll: &[u8; 256]) -> u8
 fn from_18(t: &[u8], p: Sections, roll: &[u8; 256]) -> u8
     requires placed { Placed t.now p }
     requires named { Named t.now roll.now }
-    ensures { result ≡ refusalOf (from18 t.now) }
+    ensures { result ≡ refusal_of (from18 t.now) }
 {
     let start = p.mappings;
     let links = p.links;

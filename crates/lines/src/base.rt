@@ -3,7 +3,7 @@ ghost use Rattle.std.specs.Prelude.{◌≡◌, [], ◌∷◌, ◌+◌, ◌≤◌
 ghost use Rattle.mps.specs.Words.{bit};
 ghost use Rattle.mps.specs.Numbers.{bytes};
 ghost use Rattle.mps.specs.Layout.{name_of, interrupt_type, source_bus, source_irq, polarity, trigger, destination, input};
-ghost use Rattle.mps.specs.Listing.{line as line_of, decimal as decimalOf, unpadded, on_off, boot_ap, interrupt_name};
+ghost use Rattle.mps.specs.Listing.{line as line_of, decimal as decimal_of, unpadded, on_off, boot_ap, interrupt_name};
 ghost use Rattle.mps.specs.Listing.{cpu_line, bus_line, io_apic_line, base_line};
 ghost use Rattle.text.specs.Text.{ended};
 ghost use Rattle.lines.specs.Wrote.{Wrote};
@@ -93,8 +93,8 @@ fn io_apic(out: &mut [u8], at: usize, e: u64) -> usize
 fn interrupt(out: &mut [u8], at: usize, e: u64) -> usize
     requires { at + 44 ≤ length out.old }
     ensures fact { let x = bytes 8 e in
-        let signal = decimalOf (polarity x) ∷ decimalOf (trigger x) ∷ decimalOf (destination x) ∷ decimalOf (input x) ∷ [] in
-        let words = decimalOf (source_bus x) ∷ decimalOf (source_irq x) ∷ signal in
+        let signal = decimal_of (polarity x) ∷ decimal_of (trigger x) ∷ decimal_of (destination x) ∷ decimal_of (input x) ∷ [] in
+        let words = decimal_of (source_bus x) ∷ decimal_of (source_irq x) ∷ signal in
         Wrote out.old at (32 ∷ line_of (interrupt_name (interrupt_type x)) words) out.new result }
     ensures upper_bound { result ≤ at + 44 }
 {
@@ -108,8 +108,8 @@ fn interrupt(out: &mut [u8], at: usize, e: u64) -> usize
 fn signal(out: &mut [u8], at: usize, e: u64) -> usize
     requires { at + 24 ≤ length out.old }
     ensures fact { let x = bytes 8 e in
-        let words = decimalOf (trigger x) ∷ decimalOf (destination x) ∷ decimalOf (input x) ∷ [] in
-        Wrote out.old at (line_of (decimalOf (polarity x)) words) out.new result }
+        let words = decimal_of (trigger x) ∷ decimal_of (destination x) ∷ decimal_of (input x) ∷ [] in
+        Wrote out.old at (line_of (decimal_of (polarity x)) words) out.new result }
     ensures upper_bound { result ≤ at + 24 }
 {
     let flags = byte(e, layout::INTERRUPT_FLAGS);

@@ -17,7 +17,7 @@ mod numerals; // the digits of numbers
 ghost use Rattle.std.specs.Prelude.{◌≡◌, [], ◌∷◌, ◌+◌, ◌≤◌, ◌<◌, length, get_or, take, leb};
 ghost use Rattle.std.proofs.lemmas.List.Edits.{sets};
 ghost use Rattle.mps.specs.Numbers.{le, bytes};
-ghost use Rattle.mps.specs.Listing.{decimal as decimalOf, hex, unpadded};
+ghost use Rattle.mps.specs.Listing.{decimal as decimal_of, hex, unpadded};
 ghost use Rattle.text.specs.Text.{ended};
 ghost use Rattle.lines.specs.Wrote.{Wrote};
 
@@ -89,7 +89,7 @@ fn word(out: &mut [u8], at: usize, w: &[u8]) -> usize
 // "Numbers are decimal". Most numbers of a listing are bytes, and these need no loop.
 fn decimal(out: &mut [u8], at: usize, x: u32, last: u8) -> usize
     requires { at + 6 ≤ length out.old }
-    ensures wrote { Wrote out.old at (ended (decimalOf x) last) out.new result }
+    ensures wrote { Wrote out.old at (ended (decimal_of x) last) out.new result }
     ensures upper_bound { result ≤ at + 6 }
 {
     if x < 1000 {
@@ -101,7 +101,7 @@ fn decimal(out: &mut [u8], at: usize, x: u32, last: u8) -> usize
 // A byte of an entry, in decimal.
 fn field(out: &mut [u8], at: usize, e: u64, k: usize, last: u8) -> usize
     requires { (at + 6 ≤ length out.old) × (k < 8) }
-    ensures wrote { Wrote out.old at (ended (decimalOf (get_or (bytes 8 e) k 0)) last) out.new result }
+    ensures wrote { Wrote out.old at (ended (decimal_of (get_or (bytes 8 e) k 0)) last) out.new result }
     ensures upper_bound { result ≤ at + 6 }
 {
     let x = byte(e, k);

@@ -1,7 +1,7 @@
 // The digits of a number and the byte behind them, in a room that has place for them. Each of these answers how many they are.
 ghost use Rattle.std.specs.Prelude.{◌≡◌, ◌+◌, ◌≤◌, ◌<◌, length};
 ghost use Rattle.std.proofs.lemmas.List.Edits.{sets};
-ghost use Rattle.mps.specs.Listing.{digits, decimal_digit, hex_digit, decimal as decimalOf, hex};
+ghost use Rattle.mps.specs.Listing.{digits, decimal_digit, hex_digit, decimal as decimal_of, hex};
 ghost use Rattle.text.specs.Text.{ended};
 
 // The digit 0.
@@ -24,8 +24,8 @@ fn put_decimal(out: &mut [u8], at: usize, x: u64, k: usize)
 // Up to three digits.
 pub(super) fn short_decimal(out: &mut [u8], at: usize, x: u32, last: u8) -> usize
     requires { (at + 6 ≤ length out.old) × (x < 1000) }
-    ensures value { result ≡ length (ended (decimalOf x) last) }
-    ensures out_after { out.new ≡ sets out.old at (ended (decimalOf x) last) }
+    ensures value { result ≡ length (ended (decimal_of x) last) }
+    ensures out_after { out.new ≡ sets out.old at (ended (decimal_of x) last) }
 {
     if x < 10 {
         out[at] = ZERO + x as u8;
@@ -47,8 +47,8 @@ pub(super) fn short_decimal(out: &mut [u8], at: usize, x: u32, last: u8) -> usiz
 
 pub(super) fn long_decimal(out: &mut [u8], at: usize, x: u32, last: u8) -> usize
     requires { at + 6 ≤ length out.old }
-    ensures value { result ≡ length (ended (decimalOf x) last) }
-    ensures out_after { out.new ≡ sets out.old at (ended (decimalOf x) last) }
+    ensures value { result ≡ length (ended (decimal_of x) last) }
+    ensures out_after { out.new ≡ sets out.old at (ended (decimal_of x) last) }
 {
     let k = text::width(x);
     put_decimal(out, at, x as u64, k);

@@ -10,7 +10,7 @@
 ghost use Rattle.std.specs.Prelude.{◌≡◌, false, ◌+◌, ◌≤◌, length, drop};
 ghost use Rattle.mps.specs.Words.{cut};
 ghost use Rattle.mps.specs.Layout.{pointer_size};
-ghost use Rattle.mps.specs.Pointer.{sixteen, good as isGood};
+ghost use Rattle.mps.specs.Pointer.{sixteen, good as is_good};
 ghost use Rattle.pointers.specs.Search.{first_good, search_of};
 
 use mps::layout;
@@ -70,7 +70,7 @@ fn any_signature(s: &[u8], at: usize) -> bool
 
 fn good(p: &[u8]) -> bool
     requires { length p.now ≡ pointer_size }
-    ensures { result ≡ isGood p.now }
+    ensures { result ≡ is_good p.now }
 {
     if numbers::le32(p, 0) != SIGNATURE {
         return false;

@@ -11,7 +11,7 @@
 // cursor's, over plain parameters.
 ghost use Rattle.std.specs.Prelude.{◌≡◌, ◌<◌, length, drop};
 ghost use Rattle.reader.specs.Reading.{opened, passed};
-ghost use Rattle.mps.specs.Reader.{read_base_end, read_extended_end, base_step, extended_step, whole as wholeSize, size_at, next_place, found};
+ghost use Rattle.mps.specs.Reader.{read_base_end, read_extended_end, base_step, extended_step, whole as whole_size, size_at, next_place, found};
 
 use mps::{Found, layout};
 
@@ -118,7 +118,7 @@ fn extended_end(t: &[u8]) -> usize
 // The length of an entry that ends no later than the part that it stands in, else 0.
 fn whole(place: usize, size: usize, end: usize) -> usize
     requires { place < end }
-    ensures { result ≡ wholeSize place size end }
+    ensures { result ≡ whole_size place size end }
 {
     if size <= end - place { size } else { 0 }
 }
@@ -127,7 +127,7 @@ fn whole(place: usize, size: usize, end: usize) -> usize
 // need not wait for one entry's type to know where the next begins.
 fn base_size(t: &[u8], place: usize, end: usize) -> usize
     requires { (place < length t.now) × (place < end) }
-    ensures { result ≡ wholeSize place (base_step (drop place t.now)) end }
+    ensures { result ≡ whole_size place (base_step (drop place t.now)) end }
 {
     let kind = t[place];
     if kind == layout::PROCESSOR_TYPE {

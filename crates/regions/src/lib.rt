@@ -11,7 +11,7 @@
 #![tactic(auto)]
 
 ghost use Rattle.std.specs.Prelude.{◌≡◌, ◌+◌, ◌<◌, ◌&&◌, take, leb, ltb};
-ghost use Rattle.mps.specs.Dump.{holding as holdingOf};
+ghost use Rattle.mps.specs.Dump.{holding as holding_of};
 ghost use Rattle.regions.specs.Regions.{row_of, place_holding};
 
 use mps::{Region, layout};
@@ -75,7 +75,7 @@ pub fn place_in(rs: [Region; 8], address: u32) -> usize
 // The region at that place. Where none holds the address, one of no byte at that address, so that a table there has no
 // bytes.
 pub fn holding(rs: [Region; 8], address: u32) -> Region
-    ensures { result ≡ holdingOf address (take 8 rs) }
+    ensures { result ≡ holding_of address (take 8 rs) }
 {
     let i = place_in(rs, address);
     if i < layout::REGIONS_MOST {

@@ -12,7 +12,7 @@ ghost use Rattle.std.specs.Prelude.{◌≡◌, ◌+◌, ◌*◌, ◌^◌, ◌<�
 ghost use Rattle.std.proofs.lemmas.List.Edits.{sets};
 ghost use Rattle.mps.specs.Layout.{book_most, book_head, book_row};
 ghost use Rattle.mps.specs.Book.{layout1, book_of, rows_of};
-ghost use Rattle.mps.specs.Saving.{save as saveAsk, restore as restoreAsk, added, add_left};
+ghost use Rattle.mps.specs.Saving.{save as save_ask, restore as restore_ask, added, add_left};
 ghost use Rattle.mps.specs.declared.Booked.TheVariants.{Book};
 ghost use Rattle.pages.specs.Pages.{Measured, moved_rows};
 ghost use Rattle.saving.specs.Steps.{addition_number, row_bytes, way_made, grown_room};
@@ -21,8 +21,8 @@ use mps::{Booked, layout};
 
 // A table as the next edition of a machine. `began` is the edition that its author began from, 0 for a new machine.
 pub fn save(room: &mut [u8], machine: u16, began: u16, body: &[u8]) -> Booked
-    ensures value { result ≡ added layout1 room.old (saveAsk machine began body.now) }
-    ensures room_after { room.new ≡ add_left layout1 room.old (saveAsk machine began body.now) }
+    ensures value { result ≡ added layout1 room.old (save_ask machine began body.now) }
+    ensures room_after { room.new ≡ add_left layout1 room.old (save_ask machine began body.now) }
 {
     let found = book::measure(room);
     match found {
@@ -40,8 +40,8 @@ fn save_in(
     body: &[u8],
 ) -> Booked
     requires { Measured layout1 room.old rows size }
-    ensures value { result ≡ added layout1 room.old (saveAsk machine began body.now) }
-    ensures room_after { room.new ≡ add_left layout1 room.old (saveAsk machine began body.now) }
+    ensures value { result ≡ added layout1 room.old (save_ask machine began body.now) }
+    ensures room_after { room.new ≡ add_left layout1 room.old (save_ask machine began body.now) }
 {
     let own = book::whole(body);
     if own != 0 {
@@ -57,8 +57,8 @@ fn save_in(
 
 // An old edition of a machine as its next one. `latest` is the edition that is the latest now.
 pub fn restore(room: &mut [u8], machine: u16, edition: u16, latest: u16) -> Booked
-    ensures value { result ≡ added layout1 room.old (restoreAsk machine edition latest) }
-    ensures room_after { room.new ≡ add_left layout1 room.old (restoreAsk machine edition latest) }
+    ensures value { result ≡ added layout1 room.old (restore_ask machine edition latest) }
+    ensures room_after { room.new ≡ add_left layout1 room.old (restore_ask machine edition latest) }
 {
     let found = book::measure(room);
     match found {
@@ -76,8 +76,8 @@ fn restore_in(
     latest: u16,
 ) -> Booked
     requires { Measured layout1 room.old rows size }
-    ensures value { result ≡ added layout1 room.old (restoreAsk machine edition latest) }
-    ensures room_after { room.new ≡ add_left layout1 room.old (restoreAsk machine edition latest) }
+    ensures value { result ≡ added layout1 room.old (restore_ask machine edition latest) }
+    ensures room_after { room.new ≡ add_left layout1 room.old (restore_ask machine edition latest) }
 {
     let at = rows::find(room, machine, edition);
     if at == 0 {

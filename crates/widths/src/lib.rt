@@ -8,14 +8,14 @@
 
 ghost use Rattle.std.specs.Prelude.{◌≡◌, [], ◌≤◌, min, length, get_or};
 ghost use Rattle.mps.specs.Words.{bit};
-ghost use Rattle.mps.specs.Listing.{decimal as decimalOf, on_off, boot_ap, interrupt_name};
+ghost use Rattle.mps.specs.Listing.{decimal as decimal_of, on_off, boot_ap, interrupt_name};
 ghost use Rattle.mps.specs.Listing.{cpu_line, bus_line, io_apic_line, interrupt_line, base_line, extended_line};
 
 use mps::layout;
 
 // How many digits a byte of an entry has.
 fn field(e: &[u8], k: usize) -> usize
-    ensures { (result ≡ length (decimalOf (get_or e.now k 0))) × (result ≤ 5) }
+    ensures { (result ≡ length (decimal_of (get_or e.now k 0))) × (result ≤ 5) }
 {
     text::width(numbers::byte(e, k) as u32)
 }

@@ -18,7 +18,7 @@ loop-i-init c =
     let a = c.args in
     let s = a.s.now in
     elim c.if-to-i.branch [
-      then-to-i w ↦ rw w.i-is (refl, omega arith, refl)
+      | then-to-i w ↦ rw w.i-is (refl, omega arith, refl)
       | else-to-i w ↦ let start = raise_start s a.from a.by (length s - a.by) a.to (omega arith) (omega arith) (omega arith) in
           rw w.i-is (start, omega arith, refl)
     ]
