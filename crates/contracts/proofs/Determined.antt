@@ -58,6 +58,7 @@ use Rattle.regions.proofs.holding.Reads as regions_holding
 use Rattle.contents.proofs.sound.Reads as contents_sound
 use Rattle.pointers.proofs.search.Reads as pointers_search
 use Rattle.finding.proofs.find.Reads as finding_find
+use Rattle.finding.proofs.pointer.Reads as finding_pointer
 use Rattle.dump.proofs.read.Reads as dump_read
 use Rattle.reader.specs.contracts.open as reader_open
 use Rattle.reader.specs.contracts.here as reader_here
@@ -331,6 +332,9 @@ pointers_search_determined κ a x y s t p q = p ∙ sym q
 
 pub finding_find_determined : Answers finding_find.Post
 finding_find_determined κ a x y s t p q = p ∙ sym q
+
+pub finding_pointer_determined : Answers finding_pointer.Post
+finding_pointer_determined κ a x y s t p q = p ∙ sym q
 
 -- ---- dump
 
