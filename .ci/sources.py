@@ -63,7 +63,7 @@ def parted(text):
 
 
 PUBLIC = re.compile(r'\bpub\s+(?:(?:const|unsafe|extern\s*"[^"]*")\s*)*\bfn\s+(\w+)\s*')
-CLAUSE = re.compile(r"\s*(requires|ensures)\b\s*\w*\s*(?=\{)")
+CLAUSE = re.compile(r"\s*(requires|ensures)\b\*?\s*\w*\s*(?=\{)")
 
 
 def function_at(text, match, crate, modules, file):

@@ -46,7 +46,7 @@ class Answer(NamedTuple):
 
 
 def words_to_start(words, path=None):
-    """The words that start the command. It is x86-64; elsewhere the toolchain's emulator starts it (./run)."""
+    """The words that start the command. It is x86-64; elsewhere QEMU's emulator starts it (./run)."""
     path = str(path or command)
     return [path, *map(str, words)] if NATIVE else [str(ROOT / "run"), "-e", path, *map(str, words)]
 
@@ -62,7 +62,7 @@ def start(words, environment=None, **others):
     global runs
     runs += 1
     settings = {name: value for name, value in {**ENVIRONMENT, **(environment or {})}.items() if value is not None}
-    if not NATIVE:  # ./run looks for the toolchain
+    if not NATIVE:  # ./run looks for the emulator
         settings = {**os.environ, **settings}
     others.setdefault("stdin", subprocess.DEVNULL)
     others.setdefault("stdout", subprocess.PIPE)

@@ -32,7 +32,7 @@ use Rattle.entries.proofs.count.Reads as entries_count
 use Rattle.lengths.proofs.base.Reads as lengths_base
 use Rattle.lengths.proofs.extended.Reads as lengths_extended
 use Rattle.lengths.proofs.count.Reads as lengths_count
-use Rattle.header.proofs.refusal.Reads as header_refusal_lem
+use Rattle.header.proofs.refusal.Reads as header_refusal
 use Rattle.header.proofs.wrong_extended.Reads as header_wrong_extended
 use Rattle.runs.proofs.size_of.Reads as runs_size_of
 use Rattle.sections.proofs.base.Reads as sections_base
@@ -58,6 +58,7 @@ use Rattle.regions.proofs.holding.Reads as regions_holding
 use Rattle.contents.proofs.sound.Reads as contents_sound
 use Rattle.pointers.proofs.search.Reads as pointers_search
 use Rattle.finding.proofs.find.Reads as finding_find
+use Rattle.finding.proofs.pointer.Reads as finding_pointer
 use Rattle.dump.proofs.read.Reads as dump_read
 use Rattle.reader.specs.contracts.open as reader_open
 use Rattle.reader.specs.contracts.here as reader_here
@@ -80,7 +81,7 @@ use Rattle.lines.proofs.frame.refused.Reads as lines_frame_refused
 use Rattle.widths.proofs.base.Reads as widths_base
 use Rattle.widths.proofs.extended.Reads as widths_extended
 use Rattle.listing.proofs.list.Reads as listing_list
-use Rattle.listing.proofs.full.Reads as Listing-full
+use Rattle.listing.proofs.full.Reads as listing_full
 use Rattle.listing.proofs.print.Reads as listing_print
 use Rattle.editor.proofs.edit.Reads as editor_edit
 use Rattle.rows.proofs.latest.Reads as rows_latest
@@ -100,28 +101,28 @@ use Rattle.marks.proofs.gather.Reads as marks_gather
 use Rattle.addresses.proofs.seen.Reads as addresses_seen
 use Rattle.slots.proofs.list.Reads as slots_list
 use Rattle.renumbering.proofs.renumber.Reads as renumbering_renumber
-use Rattle.exports.proofs.ruxtajma_judge.Reads as ruxtajma_judge_lem
-use Rattle.exports.proofs.ruxtajma_parts.Reads as ruxtajma_parts_lem
-use Rattle.exports.proofs.ruxtajma_entry.Reads as ruxtajma_entry_lem
-use Rattle.exports.proofs.ruxtajma_read.Reads as ruxtajma_read_lem
-use Rattle.exports.proofs.ruxtajma_addresses.Reads as ruxtajma_addresses_lem
-use Rattle.exports.proofs.ruxtajma_list.Reads as ruxtajma_list_lem
-use Rattle.exports.proofs.ruxtajma_list_full.Reads as ruxtajma_list_full_lem
-use Rattle.exports.proofs.ruxtajma_default_table.Reads as ruxtajma_default_table_lem
-use Rattle.exports.proofs.ruxtajma_io_routes.Reads as ruxtajma_io_routes_lem
-use Rattle.exports.proofs.ruxtajma_local_routes.Reads as ruxtajma_local_routes_lem
-use Rattle.exports.proofs.ruxtajma_slot_routes.Reads as ruxtajma_slot_routes_lem
-use Rattle.exports.proofs.ruxtajma_slots.Reads as ruxtajma_slots_lem
-use Rattle.exports.proofs.ruxtajma_renumber.Reads as ruxtajma_renumber_lem
-use Rattle.exports.proofs.ruxtajma_address.Reads as ruxtajma_address_lem
-use Rattle.exports.proofs.ruxtajma_write.Reads as ruxtajma_write_lem
-use Rattle.exports.proofs.ruxtajma_edit.Reads as ruxtajma_edit_lem
-use Rattle.exports.proofs.ruxtajma_book.Reads as ruxtajma_book_lem
-use Rattle.exports.proofs.ruxtajma_latest.Reads as ruxtajma_latest_lem
-use Rattle.exports.proofs.ruxtajma_body.Reads as ruxtajma_body_lem
-use Rattle.exports.proofs.ruxtajma_history.Reads as ruxtajma_history_lem
-use Rattle.exports.proofs.ruxtajma_save.Reads as ruxtajma_save_lem
-use Rattle.exports.proofs.ruxtajma_restore.Reads as ruxtajma_restore_lem
+use Rattle.exports.proofs.ruxtajma_judge.Reads as ruxtajma_judge
+use Rattle.exports.proofs.ruxtajma_parts.Reads as ruxtajma_parts
+use Rattle.exports.proofs.ruxtajma_entry.Reads as ruxtajma_entry
+use Rattle.exports.proofs.ruxtajma_read.Reads as ruxtajma_read
+use Rattle.exports.proofs.ruxtajma_addresses.Reads as ruxtajma_addresses
+use Rattle.exports.proofs.ruxtajma_list.Reads as ruxtajma_list
+use Rattle.exports.proofs.ruxtajma_list_full.Reads as ruxtajma_list_full
+use Rattle.exports.proofs.ruxtajma_default_table.Reads as ruxtajma_default_table
+use Rattle.exports.proofs.ruxtajma_io_routes.Reads as ruxtajma_io_routes
+use Rattle.exports.proofs.ruxtajma_local_routes.Reads as ruxtajma_local_routes
+use Rattle.exports.proofs.ruxtajma_slot_routes.Reads as ruxtajma_slot_routes
+use Rattle.exports.proofs.ruxtajma_slots.Reads as ruxtajma_slots
+use Rattle.exports.proofs.ruxtajma_renumber.Reads as ruxtajma_renumber
+use Rattle.exports.proofs.ruxtajma_address.Reads as ruxtajma_address
+use Rattle.exports.proofs.ruxtajma_write.Reads as ruxtajma_write
+use Rattle.exports.proofs.ruxtajma_edit.Reads as ruxtajma_edit
+use Rattle.exports.proofs.ruxtajma_book.Reads as ruxtajma_book
+use Rattle.exports.proofs.ruxtajma_latest.Reads as ruxtajma_latest
+use Rattle.exports.proofs.ruxtajma_body.Reads as ruxtajma_body
+use Rattle.exports.proofs.ruxtajma_history.Reads as ruxtajma_history
+use Rattle.exports.proofs.ruxtajma_save.Reads as ruxtajma_save
+use Rattle.exports.proofs.ruxtajma_restore.Reads as ruxtajma_restore
 
 -- ---- sums
 
@@ -228,7 +229,7 @@ lengths_count_determined κ a x y s t p q = p ∙ sym q
 
 -- ---- header
 
-pub header_refusal_determined : Answers header_refusal_lem.Post
+pub header_refusal_determined : Answers header_refusal.Post
 header_refusal_determined κ a x y s t p q = p ∙ sym q
 
 pub header_wrong_extended_determined : Answers header_wrong_extended.Post
@@ -332,6 +333,9 @@ pointers_search_determined κ a x y s t p q = p ∙ sym q
 pub finding_find_determined : Answers finding_find.Post
 finding_find_determined κ a x y s t p q = p ∙ sym q
 
+pub finding_pointer_determined : Answers finding_pointer.Post
+finding_pointer_determined κ a x y s t p q = p ∙ sym q
+
 -- ---- dump
 
 pub dump_read_determined : Answers dump_read.Post
@@ -416,7 +420,7 @@ widths_extended_determined κ a x y s t p q = p ∙ sym q
 pub listing_list_determined : Determines listing_list.Post (λ κ s. s.1.0.now)
 listing_list_determined κ a x y s t p q = (p.0 ∙ sym q.0, p.1 ∙ sym q.1)
 
-pub listing_full_determined : Determines Listing-full.Post (λ κ s. s.1.1.0.now)
+pub listing_full_determined : Determines listing_full.Post (λ κ s. s.1.1.0.now)
 listing_full_determined κ a x y s t p q = (p.0 ∙ sym q.0, p.1 ∙ sym q.1)
 
 pub listing_print_determined : Determines listing_print.Post (λ κ s. s.1.0.now)
@@ -496,68 +500,68 @@ renumbering_renumber_determined κ a x y s t p q = (p.0 ∙ sym q.0, p.1 ∙ sym
 
 -- ---- exports
 
-pub ruxtajma_judge_determined : Answers ruxtajma_judge_lem.Post
+pub ruxtajma_judge_determined : Answers ruxtajma_judge.Post
 ruxtajma_judge_determined κ a x y s t p q = p ∙ sym q
 
-pub ruxtajma_parts_determined : Answers ruxtajma_parts_lem.Post
+pub ruxtajma_parts_determined : Answers ruxtajma_parts.Post
 ruxtajma_parts_determined κ a x y s t p q = p ∙ sym q
 
-pub ruxtajma_entry_determined : Answers ruxtajma_entry_lem.Post
+pub ruxtajma_entry_determined : Answers ruxtajma_entry.Post
 ruxtajma_entry_determined κ a x y s t p q = p ∙ sym q
 
-pub ruxtajma_read_determined : Answers ruxtajma_read_lem.Post
+pub ruxtajma_read_determined : Answers ruxtajma_read.Post
 ruxtajma_read_determined κ a x y s t p q = p ∙ sym q
 
-pub ruxtajma_addresses_determined : Answers ruxtajma_addresses_lem.Post
+pub ruxtajma_addresses_determined : Answers ruxtajma_addresses.Post
 ruxtajma_addresses_determined κ a x y s t p q = p ∙ sym q
 
-pub ruxtajma_list_determined : Determines ruxtajma_list_lem.Post (λ κ s. s.1.0.now)
+pub ruxtajma_list_determined : Determines ruxtajma_list.Post (λ κ s. s.1.0.now)
 ruxtajma_list_determined κ a x y s t p q = (p.0 ∙ sym q.0, p.1 ∙ sym q.1)
 
-pub ruxtajma_list_full_determined : Determines ruxtajma_list_full_lem.Post (λ κ s. s.1.1.0.now)
+pub ruxtajma_list_full_determined : Determines ruxtajma_list_full.Post (λ κ s. s.1.1.0.now)
 ruxtajma_list_full_determined κ a x y s t p q = (p.0 ∙ sym q.0, p.1 ∙ sym q.1)
 
-pub ruxtajma_default_table_determined : Determines ruxtajma_default_table_lem.Post (λ κ s. s.1.1.0.now)
+pub ruxtajma_default_table_determined : Determines ruxtajma_default_table.Post (λ κ s. s.1.1.0.now)
 ruxtajma_default_table_determined κ a x y s t p q = (p.0 ∙ sym q.0, p.1 ∙ sym q.1)
 
-pub ruxtajma_io_routes_determined : Determines ruxtajma_io_routes_lem.Post (λ κ s. s.1.1.1.1.0.now)
+pub ruxtajma_io_routes_determined : Determines ruxtajma_io_routes.Post (λ κ s. s.1.1.1.1.0.now)
 ruxtajma_io_routes_determined κ a x y s t p q = (p.0 ∙ sym q.0, p.1 ∙ sym q.1)
 
-pub ruxtajma_local_routes_determined : Determines ruxtajma_local_routes_lem.Post (λ κ s. s.1.1.1.1.0.now)
+pub ruxtajma_local_routes_determined : Determines ruxtajma_local_routes.Post (λ κ s. s.1.1.1.1.0.now)
 ruxtajma_local_routes_determined κ a x y s t p q = (p.0 ∙ sym q.0, p.1 ∙ sym q.1)
 
-pub ruxtajma_slot_routes_determined : Determines ruxtajma_slot_routes_lem.Post (λ κ s. s.1.1.1.1.0.now)
+pub ruxtajma_slot_routes_determined : Determines ruxtajma_slot_routes.Post (λ κ s. s.1.1.1.1.0.now)
 ruxtajma_slot_routes_determined κ a x y s t p q = (p.0 ∙ sym q.0, p.1 ∙ sym q.1)
 
-pub ruxtajma_slots_determined : Determines ruxtajma_slots_lem.Post (λ κ s. s.1.0.now)
+pub ruxtajma_slots_determined : Determines ruxtajma_slots.Post (λ κ s. s.1.0.now)
 ruxtajma_slots_determined κ a x y s t p q = (p.0 ∙ sym q.0, p.1 ∙ sym q.1)
 
-pub ruxtajma_renumber_determined : Determines ruxtajma_renumber_lem.Post (λ κ s. s.1.0.now)
+pub ruxtajma_renumber_determined : Determines ruxtajma_renumber.Post (λ κ s. s.1.0.now)
 ruxtajma_renumber_determined κ a x y s t p q = (p.0 ∙ sym q.0, p.1 ∙ sym q.1)
 
-pub ruxtajma_address_determined : Answers ruxtajma_address_lem.Post
+pub ruxtajma_address_determined : Answers ruxtajma_address.Post
 ruxtajma_address_determined κ a x y s t p q = p ∙ sym q
 
-pub ruxtajma_write_determined : Determines ruxtajma_write_lem.Post (λ κ s. s.1.1.1.1.1.1.1.1.0.now)
+pub ruxtajma_write_determined : Determines ruxtajma_write.Post (λ κ s. s.1.1.1.1.1.1.1.1.0.now)
 ruxtajma_write_determined κ a x y s t p q = (p.0 ∙ sym q.0, p.1 ∙ sym q.1)
 
-pub ruxtajma_edit_determined : Determines ruxtajma_edit_lem.Post (λ κ s. s.0.now)
+pub ruxtajma_edit_determined : Determines ruxtajma_edit.Post (λ κ s. s.0.now)
 ruxtajma_edit_determined κ a x y s t p q = (p.0 ∙ sym q.0, p.1 ∙ sym q.1)
 
-pub ruxtajma_book_determined : Answers ruxtajma_book_lem.Post
+pub ruxtajma_book_determined : Answers ruxtajma_book.Post
 ruxtajma_book_determined κ a x y s t p q = p ∙ sym q
 
-pub ruxtajma_latest_determined : Answers ruxtajma_latest_lem.Post
+pub ruxtajma_latest_determined : Answers ruxtajma_latest.Post
 ruxtajma_latest_determined κ a x y s t p q = p ∙ sym q
 
-pub ruxtajma_body_determined : Answers ruxtajma_body_lem.Post
+pub ruxtajma_body_determined : Answers ruxtajma_body.Post
 ruxtajma_body_determined κ a x y s t p q = p ∙ sym q
 
-pub ruxtajma_history_determined : Determines ruxtajma_history_lem.Post (λ κ s. s.1.0.now)
+pub ruxtajma_history_determined : Determines ruxtajma_history.Post (λ κ s. s.1.0.now)
 ruxtajma_history_determined κ a x y s t p q = (p.0 ∙ sym q.0, p.1 ∙ sym q.1)
 
-pub ruxtajma_save_determined : Determines ruxtajma_save_lem.Post (λ κ s. s.0.now)
+pub ruxtajma_save_determined : Determines ruxtajma_save.Post (λ κ s. s.0.now)
 ruxtajma_save_determined κ a x y s t p q = (p.0 ∙ sym q.0, p.1 ∙ sym q.1)
 
-pub ruxtajma_restore_determined : Determines ruxtajma_restore_lem.Post (λ κ s. s.0.now)
+pub ruxtajma_restore_determined : Determines ruxtajma_restore.Post (λ κ s. s.0.now)
 ruxtajma_restore_determined κ a x y s t p q = (p.0 ∙ sym q.0, p.1 ∙ sym q.1)
