@@ -2,6 +2,8 @@
 //
 // Promised of any bytes: `read` answers `held`: what the floating pointer tells (`finding`), and the table judged. The
 // definition stands in mps's specs/Judge.antt. proofs/Laws.antt has what a caller may use of a table's place.
+#![tactic(auto)]
+
 ghost use Rattle.std.specs.Prelude.{◌≡◌};
 ghost use Rattle.mps.specs.Judge.{held};
 
