@@ -1,7 +1,7 @@
 -- What a side answers: from the IDs gathered to the pairs told and written, and of which parts of the table. Assumes nothing.
 use Prim.Native.Nat.{ℕ, zero, suc, ◌+◌, ◌-◌, ◌*◌, ◌/◌, ◌≤◌, ◌<◌}
 use mathlib.Core.Path.{◌≡◌, refl, sym, ap, ◌∙◌}
-use mathlib.Core.Bool.{Bool, true, false, not}
+use mathlib.Core.Bool.{Bool, true, false}
 use mathlib.Core.List.{List}
 use native.Mathlib.Nat.{mul_assoc}
 use native.Mathlib.Omega.{arith}
@@ -9,7 +9,7 @@ use native.Mathlib.Numerals.{add-one}
 use lib.ListN.{length, take, drop, replicate}
 use lib.Seq.{sets, length-sets, take_at}
 use lib.Dec.{leb}
-use borrow.Author.Tests.{lt-ltb, le-ltb, ltb-true, ltb-false, le-leb, leb-true, leb-false, not-true, not-false}
+use borrow.Author.Tests.{lt-ltb, le-ltb, ltb-true, ltb-false, le-leb, leb-true, leb-false}
 use Rattle.mps.specs.Words.{keep, twice, part}
 use Rattle.mps.specs.Refusals.{room_number}
 use Rattle.mps.specs.Layout.{Entry, of_type, io_interrupt_type, local_interrupt_type, header_size, processor_size, entry_size, enabled, destination, base_entries}
@@ -112,13 +112,13 @@ module _ (ids : List ℕ) (p : Entry → Bool) (s : List ℕ) (room : ℕ) where
 -- The IDs as they were read, and whether the pairs fit.
 module _ (ids : List ℕ) (p : Entry → Bool) (es : List Entry) (room : List ℕ) {read : List ℕ} (same : read ≡ ids)
     {fit : Bool} (e : fit ≡ leb (length (pairs_in read p es)) (length room)) where
-  pub answer_short : not fit ≡ true → Gives (pairs_in ids p es) room 0 room
+  pub answer_short : fit ≡ false → Gives (pairs_in ids p es) room 0 room
   answer_short h =
-      gives_short (pairs_in ids p es) room (leb-false (length (pairs_in ids p es)) (length room) (sym (rw same at e) ∙ not-true fit h))
+      gives_short (pairs_in ids p es) room (leb-false (length (pairs_in ids p es)) (length room) (sym (rw same at e) ∙ h))
 
-  module _ (h : not fit ≡ false) where
+  module _ (h : fit ≡ true) where
     pub answer_room : length (pairs_in read p es) ≤ length room
-    answer_room = leb-true (length (pairs_in read p es)) (length room) (sym e ∙ not-false fit h)
+    answer_room = leb-true (length (pairs_in read p es)) (length room) (sym e ∙ h)
 
     pub answer_put : {n : ℕ} {u : List ℕ} → n ≡ length (pairs_in read p es) → u ≡ sets room 0 (pairs_in read p es)
         → Gives (pairs_in ids p es) room (n / pair_size + 1) u

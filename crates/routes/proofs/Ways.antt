@@ -5,7 +5,7 @@ use mathlib.Core.Bool.{Bool, true, false, not, ◌||◌, or-true}
 use mathlib.Core.List.{List, [], ◌∷◌}
 use native.Mathlib.Omega.{arith}
 use lib.Dec.{leb}
-use borrow.Author.Tests.{lt-ltb, le-ltb, leb-false, not-false}
+use borrow.Author.Tests.{lt-ltb, le-ltb, leb-false}
 use Rattle.mps.specs.Words.{keep, each, among, part}
 use Rattle.mps.specs.Refusals.{Rule, ◌when◌, refusal, query_number}
 use Rattle.mps.specs.Layout.{Entry, entry_size, interrupt_type_most, vectored, pins, devices, id_of, base_entries}
@@ -71,11 +71,11 @@ module _ (t : List ℕ) (p : Sections) (a : table_refusal t ≡ 0) (placed : Pla
     wrong_type h = line_wrong (rw (lt-ltb interrupt_type_most itype h) (or-true (not (is_listed (base_entries t) bus))))
 
     module _ {found : Bool} (e : found ≡ among bus (each id_of (rows entry_size (part p.buses p.ioapics t)))) where
-      pub wrong_bus : not found ≡ true → AnswersLine q t room (Refused query_number) room
+      pub wrong_bus : found ≡ false → AnswersLine q t room (Refused query_number) room
       unfolding wrong_line
       wrong_bus h = line_wrong (rw (listed bus e, h))
 
-      pub right_line : not found ≡ false → itype ≤ interrupt_type_most
+      pub right_line : found ≡ true → itype ≤ interrupt_type_most
           → {n : ℕ} {r : Lent} {u : List ℕ} → Gives (pairs_of (side_of local) (wired itype bus irq false) t) room n u → r ≡ meant n
           → AnswersLine q t room r u
       unfolding wrong_line
@@ -102,7 +102,7 @@ module _ (t : List ℕ) (p : Sections) (a : table_refusal t ≡ 0) (placed : Pla
     wrong_is = rw (placed_pci t p placed bus, f)
 
     -- No PCI bus: 24 where it is not listed, else 25.
-    module _ (h : not pci ≡ true) {found : Bool} (e : found ≡ among bus (each id_of (rows entry_size (part p.buses p.ioapics t)))) where
+    module _ (h : pci ≡ false) {found : Bool} (e : found ≡ among bus (each id_of (rows entry_size (part p.buses p.ioapics t)))) where
       pub not_listed : found ≡ false → AnswersSlot s t room (Refused query_number) room
       not_listed k = slot_refused (refusal_stop query_number _ (rw (listed bus e, k))) (λ z. omega (arith, z))
 
@@ -110,11 +110,11 @@ module _ (t : List ℕ) (p : Sections) (a : table_refusal t ≡ 0) (placed : Pla
       not_pci k = slot_refused (behind_24 (listed bus e ∙ k) ∙ refusal_stop 25 [] (wrong_is ∙ rw h)) (λ z. omega (arith, z))
 
     -- A PCI bus is listed: 25 by the device or the pin, or the answer.
-    module _ (h : not pci ≡ false) where
+    module _ (h : pci ≡ true) where
       its_25 : refusal (slot_own s t) ≡ refusal (25 when wrong_slot s t ∷ [])
       its_25 =
           let es = rows entry_size (part p.buses p.ioapics t) in
-          behind_24 (placed_listed t p placed bus ∙ among_kept bus is_pci es (sym f ∙ not-false pci h))
+          behind_24 (placed_listed t p placed bus ∙ among_kept bus is_pci es (sym f ∙ h))
 
       pub wrong_slot_lem : (leb devices device || leb pins pin) ≡ true → AnswersSlot s t room (Refused 25) room
       wrong_slot_lem w = slot_refused (its_25 ∙ refusal_stop 25 [] (wrong_is ∙ rw h w)) (λ z. omega (arith, z))

@@ -11,6 +11,8 @@
 // not of their product. One pass over the interrupt entries writes the pairs; only where the room may be too small for them
 // does one before it count them. What a side answers goes up as a number, and the enum is made at the top: an enum that is
 // handed through a call is copied there.
+#![tactic(auto)]
+
 ghost use Rattle.std.specs.Prelude.{◌≡◌, false, ◌+◌, ◌*◌, ◌≤◌, length, take, drop, leb};
 ghost use Rattle.std.proofs.lemmas.List.Edits.{sets};
 ghost use Rattle.mps.specs.Words.{twice, joined};

@@ -1,0 +1,23 @@
+-- The judge's refusal is the query's; else the table is accepted, with its places.
+use native.Mathlib.Omega.{arith}
+use Rattle.mps.specs.Routes.{question, routes_of}
+use Rattle.routes.specs.Pairs.{side_of}
+use Rattle.judge.proofs.Laws.{examined_accepted}
+use Rattle.routes.proofs.Numbers.{examined_refused, line_own, line_some, line_answers}
+use Rattle.routes.proofs.query.Goals as goal
+
+pub behind_table-requires : goal.behind_table-requires
+behind_table-requires c =
+    let bytes = c.type_inv.t in
+    examined_accepted c.args.t.now (λ i. omega (arith, bytes i)) c.examine-found.ensures c.in-Accepted.is
+
+pub returns-in-Refused : goal.returns-in-Refused
+returns-in-Refused c =
+    let a = c.args in
+    let q = question (side_of a.local) a.itype a.bus a.irq in
+    let t = a.t.now in let both = line_answers t a.out.now q
+    (examined_refused t (line_own q t) (line_some q t) (routes_of q t) a.out.now
+    c.examine-found.ensures c.in-Refused.is) in record { value = both.0; out_after = both.1 }
+
+pub returns-in-Accepted : goal.returns-in-Accepted
+returns-in-Accepted c = c.behind_table.ensures
