@@ -187,7 +187,8 @@ marked_byte place rank marks (e ∷ es) bus h =
 length_marked : (place rank : Entry → ℕ) (marks : List ℕ) (es : List Entry) → length (marked place rank marks es) ≡ length marks
 unfolding marked
 length_marked place rank marks [] = refl
-length_marked place rank marks (e ∷ es) = length_marked place rank _ es ∙ length-set marks (place e) _
+length_marked place rank marks (e ∷ es) =
+    length_marked place rank (set marks (place e) (max (byte marks (place e)) (rank e))) es ∙ length-set marks (place e) _
 
 pub max_none : (n : ℕ) → max 0 n ≡ n
 max_none n = omega arith

@@ -10,6 +10,8 @@
 //
 // The lists are lent and stored in, so that none is copied. Each type has a loop of its own, in which nothing is asked that
 // the place has told: a caller gives the entries of a type, and no type is read.
+#![tactic(auto)]
+
 ghost use Rattle.std.specs.Prelude.{◌≡◌, ◌&&◌, ℕ, ◌≤◌, ◌<◌, max, length, set, eqb};
 ghost use Rattle.mps.specs.Words.{byte};
 ghost use Rattle.mps.specs.Layout.{mapping_size, link_size, extended_bus};

@@ -16,11 +16,10 @@ use Rattle.mps.specs.Layout.{header_size, Entry, type, last_base_type, first_ext
 use Rattle.mps.specs.Layout.{base_entry_length, extended_entry_length, own_length, base_entries, extended_entries}
 use Rattle.mps.specs.Reader.{read_base_end, read_extended_end, base_step, extended_step, whole, size_at, entry_at, next_place}
 use Rattle.mps.specs.Words.{part, cut}
-use Rattle.mps.specs.Refusals.{◌when◌, refusal, type_number, cut_number, order_number, Rule}
 use Rattle.mps.specs.Table.{entry_fault, walk_from, extended_fault, extended_from}
 use Rattle.mps.specs.Judge.{table_refusal}
 use Rattle.laws.proofs.Tests.{whether, or_parts}
-use Rattle.laws.proofs.Refusals.{first_none, refusal_pass}
+use Rattle.laws.proofs.Refusals.{first_none}
 use Rattle.laws.proofs.Parts.{length_part, drop_part}
 use Rattle.laws.proofs.Cut.{cut_first}
 use Rattle.accepted.proofs.Sound.{sound}

@@ -7,8 +7,9 @@
 // own. A reader as it is made and as it goes on is in specs/Reading.antt. A call looks at six bytes at most, wherever the
 // place is.
 //
-// The functions over the struct only take it apart and put it together, and each is proved by hand; the work is the
-// cursor's, over plain parameters.
+// The functions over the struct only take it apart and put it together; the work is the cursor's, over plain parameters.
+#![tactic(auto)]
+
 ghost use Rattle.std.specs.Prelude.{◌≡◌, ◌<◌, length, drop};
 ghost use Rattle.reader.specs.Reading.{opened, passed};
 ghost use Rattle.mps.specs.Reader.{read_base_end, read_extended_end, base_step, extended_step, whole as whole_size, size_at, next_place, found};
@@ -46,7 +47,7 @@ pub fn next<'a>(r: Reader<'a>) -> Reader<'a>
     }
 }
 
-// ---- A table and a place: who calls these has no reader, and needs no proof by hand
+// ---- A table and a place: who calls these has no reader
 
 pub fn entry(t: &[u8], place: usize) -> Found
     ensures { result ≡ found t.now place }
