@@ -7,10 +7,6 @@
 
 enum { MADE_MOST = 252 };       /* holds the table of any default configuration */
 
-/* How one goes on from the number of a default configuration. */
-const char in_full[] = "for the full table that it stands for, give the processor that booted: "
-                       "--boot 0 or --boot 1 (the dump does not say which)";
-
 /* 0 where none is given.  Whether there is such a processor is the call's to say. */
 uint8_t boot_of(const struct call *call)
 {
@@ -43,7 +39,7 @@ bool dump_has_table(const struct call *call, struct bytes *table)
     if (configuration != 0 && call->boot != NULL)
         return is_made(configuration, boot, table);
     if (configuration != 0) {
-        printf("no table: default configuration %u\n%s\n", configuration, in_full);
+        printf("no table: default configuration %u\n", configuration);
         return false;
     }
     if (!is_table((struct bytes){ dump.at + ruxtajma_start(answer), ruxtajma_length(answer) }, &held))
@@ -69,21 +65,29 @@ void tell_dump(struct bytes file)
 }
 
 /*
- * The table that a verb asks about, if it is accepted.  Nothing is both a table and a dump: where the
- * one is refused and it is the other, that is said.
+ * The table that a verb asks about, if it is accepted.  Nothing is both a table and a dump: where a
+ * dump was to be one and is a table, that is said.
  */
 bool has_table(const struct call *call, struct bytes *table)
 {
     if (call->boot == NULL) {
         *table = taken(call->word[0], FILE_MOST + 1);
-        if (refused(ruxtajma_judge(table->at, table->length)) == ANSWER)
-            return true;
-        tell_default(*table, in_full);
-        return false;
+        return refused(ruxtajma_judge(table->at, table->length)) == ANSWER;
     }
     if (dump_has_table(call, table))
         return true;
     if (ruxtajma_refusal(ruxtajma_judge(table->at, table->length)) == 0)
         printf("it is a table: leave out --boot\n");
     return false;
+}
+
+/* The same; and where a table was to be one and is a dump of a default configuration, that. */
+bool has_table_or_hint(const struct call *call, struct bytes *table)
+{
+    bool accepted = has_table(call, table);
+
+    if (!accepted && call->boot == NULL)
+        tell_default(*table, "for the full table that it stands for, give the processor that booted: "
+                             "--boot 0 or --boot 1 (the dump does not say which)");
+    return accepted;
 }

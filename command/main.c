@@ -15,27 +15,27 @@ static const struct verb {
     int (*run)(const struct call *call);
     const char *more;
 } verbs[] = {
-    { "list", "[--boot N] DUMP", "the listing of a dump, as mplist writes it", "p", 1, 1, list, "" },
+    { "list", "DUMP", "the listing of a dump, as mplist writes it", "p", 1, 1, list, "" },
     { "judge", "[--table | --dump] FILE",
       "whether a table or a dump is accepted, or by which rule it is refused", "td", 1, 1, judge, "" },
-    { "table", "[--boot N] DUMP [-o FILE]", "the table that a dump holds, as a file", "po", 1, 1, table, "" },
-    { "entries", "[--boot N] TABLE", "each entry: its place, its bytes and its line; what edit takes", "p",
+    { "table", "DUMP [-o FILE]", "the table that a dump holds, as a file", "po", 1, 1, table, "" },
+    { "entries", "TABLE", "each entry: its place, its bytes and its line; what edit takes", "p",
       1, 1, entries, "" },
-    { "routes", "[--io | --local] [--boot N] TABLE TYPE BUS IRQ",
+    { "routes", "[--io | --local] TABLE TYPE BUS IRQ",
       "where an interrupt line goes; TYPE is INT, NMI, SMI, EXTINT or a number", "ilp",
       4, 4, routes, "" },
-    { "slots", "[--boot N] TABLE", "each PCI slot that the table names, and where its interrupt goes", "p",
+    { "slots", "TABLE", "each PCI slot that the table names, and where its interrupt goes", "p",
       1, 1, slots, "" },
-    { "slot", "[--boot N] TABLE BUS DEVICE PIN",
+    { "slot", "TABLE BUS DEVICE PIN",
       "where the interrupt of a PCI slot goes; PIN is A, B, C, D or a number, 0 for INTA#", "p",
       4, 4, slot,
       "DEVICE is 0 to 31. A, a, INTA, INTA# and 0 are one pin. 'mpt slots' prints the bus, device\n"
       "and pin of each slot.\n" },
-    { "renumber", "[--boot N] TABLE",
-      "each I/O APIC's number, and a new one where a processor that is on has it", "p", 1, 1, renumber,
+    { "renumber", "TABLE", "each I/O APIC's number, and a new one where a processor that is on has it", "p",
+      1, 1, renumber,
       "A new number is the lowest from 0 to 254 that is free; processors and I/O APICs that are off\n"
       "take none. The table stays as it is, and other verbs name its numbers.\n" },
-    { "sees", "[--boot N] TABLE BUS KIND ADDRESS",
+    { "sees", "TABLE BUS KIND ADDRESS",
       "whether a bus sees an address; KIND is io, memory, prefetch or a number", "p", 4, 4, sees,
       "A subtractive bus sees what its parent sees, but not what another bus there claims; where none does,\n"
       "but one there has no map, no mod and no such bit, it is undeclared. Where such a bus decides, the\n"
@@ -45,7 +45,7 @@ static const struct verb {
       "Fields of a processor: id version enabled boot signature features; of a bus: id name;\n"
       "of an I/O APIC: id version enabled address; of an interrupt: type polarity trigger bus\n"
       "irq destination input. PLACE and STATED are what 'mpt entries' prints.\n" },
-    { "parts", "[--boot N] TABLE [-o FILE]", "a table as a text that a person can edit", "po", 1, 1, parts, "" },
+    { "parts", "TABLE [-o FILE]", "a table as a text that a person can edit", "po", 1, 1, parts, "" },
     { "make", "TEXT [-o FILE]", "the table that the writer makes of such a text", "o", 1, 1, make, "" },
     { "dump", "--memory IMAGE [-o FILE], or --region KIND:BASE:FILE .. [-o FILE]",
       "a dump, from the first MiB of a memory or from regions by hand", "mro", 0, 0, dump,
@@ -93,8 +93,10 @@ static const char of_boot[] =
 
 static int help(const struct verb *verb)
 {
-    printf("usage: mpt %s %s\n\n%s\n%s%s", verb->name, verb->words, verb->help, verb->more,
-           strchr(verb->options, 'p') != NULL ? of_boot : "");
+    bool boot = strchr(verb->options, 'p') != NULL;
+
+    printf("usage: mpt %s %s%s\n\n%s\n%s%s", verb->name, boot ? "[--boot N] " : "", verb->words, verb->help,
+           verb->more, boot ? of_boot : "");
     return ANSWER;
 }
 

@@ -128,10 +128,10 @@ const char *line_at(const struct table *table, size_t place);
 size_t entries_of(const struct table *table, struct entry **all);
 
 /* boot.c: the table that a verb is about, of its own file or of a dump. */
-extern const char in_full[];
 uint8_t boot_of(const struct call *call);
 bool dump_has_table(const struct call *call, struct bytes *table);
 bool has_table(const struct call *call, struct bytes *table);
+bool has_table_or_hint(const struct call *call, struct bytes *table);
 void tell_dump(struct bytes file);
 
 /* parts.c: the fields of a table's header that differ. */

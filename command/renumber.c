@@ -36,10 +36,11 @@ static bool told(size_t place, const struct io_apic *apic, const uint8_t *number
 int renumber(const struct call *call)
 {
     static uint8_t numbers[NUMBERS];
+    struct bytes file;
     struct table t;
     struct io_apic apic;
 
-    if (!table_of(call, &t))
+    if (!has_table(call, &file) || !is_table(file, &t))
         return REFUSAL;
     uint64_t answer = ruxtajma_renumber(t.file.at, t.file.length, numbers, sizeof numbers);
     if (refused(answer))

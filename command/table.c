@@ -19,7 +19,7 @@ bool table_of(const struct call *call, struct table *table)
 {
     struct bytes file;
 
-    return has_table(call, &file) && is_table(file, table);
+    return has_table_or_hint(call, &file) && is_table(file, table);
 }
 
 struct bytes entry_from(const struct table *table, size_t at)
@@ -103,15 +103,6 @@ int entries(const struct call *call)
     return ANSWER;
 }
 
-/* On standard error, so that the one line stays as mplist writes it. */
-static void note_default(struct bytes dump)
-{
-    if (ruxtajma_default(ruxtajma_read(dump.at, dump.length)) == 0)
-        return;
-    fflush(stdout);
-    fprintf(stderr, "mpt: note: %s\n", in_full);
-}
-
 int list(const struct call *call)
 {
     uint8_t boot = boot_of(call), *room = (uint8_t *)text;
@@ -123,8 +114,6 @@ int list(const struct call *call)
     if (refused(answer))
         return REFUSAL;
     fwrite(text, 1, ruxtajma_count(answer), stdout);
-    if (call->boot == NULL)
-        note_default(dump);
     return ANSWER;
 }
 

@@ -5,14 +5,12 @@
 What is wanted was typed off Intel's Tables 5-1 to 5-3 (chapter5.py), with docs/DEFAULTS.md for what they leave open; three listings
 stand here in full.
 """
-import os
 import resource
 
 import boards
-import chapter5
 import harness
 from boards import BENCH, RICH, base_entries, dump, listing, pointer, put, rom
-from chapter5 import BEHIND, IN_FULL, NOTE, SEVEN, TAKE_OUT, asked, connected, dumps, made, row_of
+from chapter5 import BEHIND, IN_FULL, SEVEN, TAKE_OUT, asked, connected, dumps, made, row_of
 from rows import BOOK
 
 TOO_HIGH = ["2", "3", "7", "0x2", "128", "255", "0xFF"]
@@ -115,13 +113,13 @@ class Default(harness.Case):
 
 class Listed(Default):
     def test_the_one_line(self):
-        """As ever, and a note beside it that more can be had."""
+        """As ever, and nothing beside it."""
         for configuration in SEVEN:
             for imcr in (0, 1):
                 for content, _ in dumps(configuration, imcr):
                     self.put("board.dump", content)
-                    self.answers(["list", "board.dump"], f"default {configuration} imcr {imcr}\n", NOTE)
-                self.answers(["list", "-"], f"default {configuration} imcr {imcr}\n", NOTE, input=content)
+                    self.answers(["list", "board.dump"], f"default {configuration} imcr {imcr}\n")
+                self.answers(["list", "-"], f"default {configuration} imcr {imcr}\n", input=content)
 
     def test_by_hand(self):
         for configuration, imcr, boot, text in ((5, 0, 0, ISA_AND_PCI), (2, 1, 1, EISA_LESS_TWO), (7, 1, 1, MCA_AND_PCI)):
@@ -394,6 +392,8 @@ class Refused(harness.Case):
         self.unchanged(before)
 
 
+# The verbs of a table that say of a dump of a default configuration what it is.
+HINTING = ["entries", "sees", "parts"]
 # The verbs that change a table's file or keep it, of board.dump.
 TAKING_NONE = [["edit", "board.dump", "3", "00", "01"], ["edit", "board.dump", "3", "0300000000010201", "--set", "input=9"],
                ["log", "board.dump"], ["log", "--check", "board.table", "board.dump"], ["log", "--check", "board.dump", "board.table"],
@@ -401,36 +401,40 @@ TAKING_NONE = [["edit", "board.dump", "3", "00", "01"], ["edit", "board.dump", "
 
 
 class Hints(harness.Case):
-    """Without --boot: what a dump of a default configuration is, and how one goes on; with it, that a table is none."""
+    """Without --boot: of some verbs what a dump of a default configuration is, and how one goes on; with it, that a table is none."""
 
     def test_help(self):
         for verb in BEHIND:
-            self.assertIn(b"\nWith --boot N the file is a dump. Where that is of a default configuration", self.mpt(verb, "--help").out)
+            helped = self.mpt(verb, "--help").out
+            self.assertTrue(helped.startswith(b"usage: mpt %s [--boot N] " % verb.encode()), helped)
+            self.assertIn(b"\nWith --boot N the file is a dump. Where that is of a default configuration", helped)
         self.assertIn(b"--boot 0 or 1", self.mpt("--help").out)
 
     def test_table(self):
+        """The number of the configuration alone."""
         for configuration in SEVEN:
             for content, _ in dumps(configuration):
                 self.put("board.dump", content)
                 for words in (["table", "board.dump"], ["table", "board.dump", "-o", "new.table"]):
                     answer = self.mpt(*words)
-                    self.assertEqual(answer, (1, b"no table: default configuration %d\n" % configuration + IN_FULL, b""))
+                    self.assertEqual(answer, (1, b"no table: default configuration %d\n" % configuration, b""))
                 self.assertEqual(list(self.files()), ["board.dump"])
 
     def test_verbs_of_a_table(self):
-        """A dump is no table: 5 of a short one and 6 of others, and then what it is."""
+        """A dump is no table: 5 of a short one and 6 of others, and then, of some verbs, what it is."""
         for configuration in SEVEN:
-            more = b"it is a dump of default configuration %d\n" % configuration + IN_FULL
+            hint = b"it is a dump of default configuration %d\n" % configuration + IN_FULL
             for (content, _), number in zip(dumps(configuration), (5, 6, 6, 6)):
                 self.put("board.dump", content)
                 for verb, behind in BEHIND.items():
                     if verb in ("list", "table"):
                         continue
+                    more = hint if verb in HINTING else None
                     with self.subTest(configuration=configuration, verb=verb, number=number):
                         self.refuses([verb, "board.dump", *behind], number, more=more)
                         if configuration == 1:
                             self.refuses([verb, "-", *behind], number, more=more, input=content)
-        self.refuses(["parts", "board.dump", "-o", "board.txt"], 6, more=more)
+        self.refuses(["parts", "board.dump", "-o", "board.txt"], 6, more=hint)
         self.assertEqual(list(self.files()), ["board.dump"])
 
     def test_only_there(self):
@@ -490,16 +494,6 @@ class Hints(harness.Case):
             self.put("board.file", put(made(5, 0), at, byte))
             self.refuses(["entries", "board.file"], number)
             self.refuses(["entries", "board.file", "--boot", "0"], 1)
-
-    def test_in_their_order(self):
-        """Where both go to one place the line comes first, and then the note."""
-        self.put("board.dump", rom(pointer(0, 4)))
-        reading, writing = os.pipe()
-        process = harness.start(harness.words_to_start(["list", "board.dump"]), cwd=self.folder, stdout=writing, stderr=writing)
-        os.close(writing)
-        with open(reading, "rb") as both:
-            self.assertEqual(both.read(), b"default 4 imcr 0\n" + NOTE)
-        self.assertEqual(process.wait(), 0)
 
 
 if __name__ == "__main__":

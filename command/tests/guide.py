@@ -2,8 +2,8 @@
 
     python3 command/tests/guide.py COMMAND
 
-A line with a `$` in front is typed, in the guide's order and in one folder; what follows it is printed, notes too. A command with
-nothing below it only has to end with 0. Times and the machine's name are the reader's own.
+A line with a `$` in front is typed, in the guide's order and in one folder; what follows it is printed. A command with nothing below
+it only has to end with 0. Times and the machine's name are the reader's own.
 """
 import os
 import re
@@ -61,9 +61,7 @@ class Guide(harness.Case):
                 made = re.search(r" -o (\S+)", typed)
                 if made and (self.folder / made[1]).exists():
                     os.remove(self.folder / made[1])
-                answer = subprocess.run(["sh", "-c", typed], cwd=self.folder, stdout=subprocess.PIPE,
-                                        stderr=subprocess.STDOUT if below else subprocess.PIPE,
-                                        env={**os.environ, **harness.SANITIZERS}, timeout=30)
+                answer = subprocess.run(["sh", "-c", typed], cwd=self.folder, capture_output=True, env={**os.environ, **harness.SANITIZERS}, timeout=30)
                 printed = answer.stdout.decode().splitlines()
                 if below:
                     self.assertEqual(alike(printed), alike(below))

@@ -212,7 +212,7 @@ class Memory(harness.Case):
             for at, kind, names in ((EBDA, 1, {"ebda": EBDA}), (EBDA, 2, {}), (0xF0000, 3, {}), (0xFFFF0, 3, {"ebda": EBDA})):
                 memory = image((at, pointer(0, number, 0x80)), **names)
                 self.of_image(self.dumped(memory), memory, kind)
-                self.answers(["list", "board.dump"], f"default {number} imcr 1\n", chapter5.NOTE)
+                self.answers(["list", "board.dump"], f"default {number} imcr 1\n")
                 self.answers(["list", "--boot", "0", "board.dump"], listing(chapter5.made(number, 0), at, 0, imcr=1))
 
     def test_no_pointer(self):

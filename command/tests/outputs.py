@@ -120,12 +120,6 @@ class FullOrClosed(harness.Case):
                 self.assertEqual(answer.status, 2, answer)
                 self.assertRegex(answer.err, rb"\Ampt: .*Bad file descriptor\n\Z")
 
-    def test_beside_a_note(self):
-        """The one line of a default configuration that cannot be written: the note is there, and why it is no answer."""
-        with open("/dev/full", "wb") as full:
-            answer = self.mpt("list", "default.dump", stdout=full)
-        self.assertEqual((answer.status, answer.err), (2, chapter5.NOTE + b"mpt: standard output: No space left on device\n"))
-
     def test_an_edit_that_cannot_say_so(self):
         """It is done, and the exit tells that something failed behind it. No file that it opens takes the place of what is
         closed: nothing but the log's line stands in the log."""

@@ -217,14 +217,15 @@ class Refused(harness.Case):
                 self.refuses(["renumber", "bad.table"], number)
 
     def test_dumps(self):
-        """It takes a table, as routes does. Dumps of default configurations are tried in defaults.py."""
-        self.put("board.dump", rom(pointer(0xF0010), RICH))
-        self.refuses(["renumber", "board.dump"], 6)
+        """It takes a table, as routes does."""
+        for content, number in ((rom(pointer(0xF0010), RICH), 6), (rom(pointer(0, 5)), 5), (rom(pointer(0, 5), bytes(64)), 6)):
+            self.put("board.dump", content)
+            self.refuses(["renumber", "board.dump"], number)
 
     def test_wrong_words(self):
         self.put("board.table", BENCH)
-        self.wrong(["renumber"], "usage: mpt renumber [--boot N] TABLE")
-        self.wrong(["renumber", "board.table", "2"], "usage: mpt renumber [--boot N] TABLE")
+        self.wrong(["renumber"], "usage: mpt renumber TABLE")
+        self.wrong(["renumber", "board.table", "2"], "usage: mpt renumber TABLE")
 
 
 if __name__ == "__main__":

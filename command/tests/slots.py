@@ -172,8 +172,8 @@ class Slot(harness.Case):
         self.wrong(["slot", "board.table", "A", "6", "A"], "bus: 'A' is no number from 0 to 255")
         self.wrong(["slot", "board.table", "0", "1F", "A"], "device: '1F' is no number from 0 to 255")
         self.wrong(["slot", "board.table", "0", "256", "A"], "device: '256' is no number from 0 to 255")
-        self.wrong(["slot", "board.table", "0", "6"], "usage: mpt slot [--boot N] TABLE BUS DEVICE PIN")
-        self.wrong(["slots", "board.table", "0"], "usage: mpt slots [--boot N] TABLE")
+        self.wrong(["slot", "board.table", "0", "6"], "usage: mpt slot TABLE BUS DEVICE PIN")
+        self.wrong(["slots", "board.table", "0"], "usage: mpt slots TABLE")
 
     def test_no_such_slot(self):
         """25, and a line for each of bus, device and pin that is to blame."""
@@ -215,10 +215,11 @@ class Refused(harness.Case):
                     self.refuses(["slot", "bad.table", *words.split()], number)
 
     def test_dumps(self):
-        """They take a table, as routes does: a dump is no table. Those of a default configuration are tried in defaults.py."""
-        self.put("board.dump", rom(pointer(0xF0010), RICH))
-        for words in (["routes", "board.dump", "INT", "0", "1"], ["slots", "board.dump"], ["slot", "board.dump", "1", "1", "A"]):
-            self.refuses(words, 6)
+        """They take a table, as routes does: a dump is no table, and a default configuration has none."""
+        for content, number in ((rom(pointer(0xF0010), RICH), 6), (rom(pointer(0, 5)), 5), (rom(pointer(0, 5), bytes(64)), 6)):
+            self.put("board.dump", content)
+            for words in (["routes", "board.dump", "INT", "0", "1"], ["slots", "board.dump"], ["slot", "board.dump", "1", "1", "A"]):
+                self.refuses(words, number)
 
 
 if __name__ == "__main__":

@@ -5,7 +5,6 @@
 What is wanted comes from the texts beside the dumps, and from the tables' bytes as boards.py cuts them.
 """
 import boards
-import chapter5
 import harness
 from boards import BENCH, base_entries, extended_entries, pointer, put, rom
 
@@ -18,7 +17,7 @@ class OverTheShelf(harness.Case):
                     if shelved.refused:
                         self.refuses(words, shelved.refused, input=input)
                     else:
-                        self.answers(words, shelved.text, chapter5.NOTE if shelved.default else b"", input=input)
+                        self.answers(words, shelved.text, input=input)
 
     def test_judge_a_dump(self):
         for shelved in boards.shelf():
@@ -125,12 +124,16 @@ class Judged(harness.Case):
                 self.assertEqual(self.files(), {"bad.table": content})
 
     def test_default_configurations(self):
-        """The dump is judged, and there is no table to judge; other verbs are tried in defaults.py."""
         for number in range(1, 8):
-            for feature2 in (0, 0x80):
+            for feature2, imcr in ((0, 0), (0x80, 1)):
                 self.put("board.dump", rom(pointer(0, number, feature2)))
-                with self.subTest(number=number, feature2=feature2):
+                with self.subTest(number=number, imcr=imcr):
+                    self.answers(["list", "board.dump"], f"default {number} imcr {imcr}\n")
                     self.answers(["judge", "board.dump"], f"accepted: a dump of default configuration {number}\n")
+                    answer = self.mpt("table", "board.dump", "-o", "new.table")
+                    self.assertEqual((answer.status, answer.out, answer.err),
+                                     (1, b"no table: default configuration %d\n" % number, b""))
+                    self.assertEqual(list(self.files()), ["board.dump"])
         self.put("board.dump", rom(pointer(0, 8)))
         self.refuses(["judge", "board.dump"], 4)
 

@@ -3,3 +3,4 @@
 //
 // Nothing here runs, and nothing here belongs to the judge's code: each law is about the definitions of mps. The judge, the
 // listing, the queries, the writer, the editor and the promises cite them.
+#![tactic(auto)]

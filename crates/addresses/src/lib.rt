@@ -8,6 +8,8 @@
 // buses below each say (`marks`); then the climb goes from bus to bus. So the cost is that of the table, however long the chain
 // of parents is, and however many buses have one parent. The climb lends on three arrays and answers a number, so that it is a
 // loop when it runs: a slice or an answer of two words would be copied at each bus.
+#![tactic(auto)]
+
 ghost use Rattle.std.specs.Prelude.{◌≡◌, ◌+◌, ◌≤◌, ◌<◌};
 ghost use Rattle.mps.specs.Layout.{mapping_size, link_size};
 ghost use Rattle.mps.specs.Sections.{rows};

@@ -9,6 +9,7 @@ use crate::{reply, request};
 // The low byte of what C gets: the refusal's number.
 const NUMBER: u64 = 256;
 
+#[tactic(auto, unfolding(crate::specs::Wire::middle_of))]
 fn written(q: &[u8], base: &[u8], m: &[u8], room: &mut [u8]) -> u64
     requires { middle_of q.now ≡ length m.now }
 {
@@ -27,6 +28,7 @@ fn written(q: &[u8], base: &[u8], m: &[u8], room: &mut [u8]) -> u64
     )
 }
 
+#[tactic(auto, unfolding(crate::specs::Wire::middle_of))]
 fn edited(q: &[u8], t: &mut [u8], m: &[u8]) -> u64
     requires { middle_of q.now ≡ length m.now }
 {
@@ -41,6 +43,7 @@ fn edited(q: &[u8], t: &mut [u8], m: &[u8]) -> u64
 }
 
 // The body is the first of the slices in the middle.
+#[tactic(auto, unfolding(crate::specs::Wire::middle_of))]
 fn saved(q: &[u8], room: &mut [u8], m: &[u8]) -> u64
     requires { middle_of q.now ≡ length m.now }
 {

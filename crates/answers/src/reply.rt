@@ -18,6 +18,7 @@ const VALUES: usize = 1;
 
 const HEAD_MOST: usize = 117;
 
+#[tactic(auto, unfolding(crate::specs::Wire::answer_of, mps::specs::Words::exactly))]
 pub fn one(value: u64) -> Answer
     ensures value { result ≡ answer_of (value ∷ []) }
     ensures count_bound { result.count ≤ 12 }
@@ -28,6 +29,7 @@ pub fn one(value: u64) -> Answer
     }
 }
 
+#[tactic(auto, unfolding(crate::specs::Wire::answer_of, mps::specs::Words::exactly))]
 pub fn two(first: u64, second: u64) -> Answer
     ensures value { result ≡ answer_of (first ∷ second ∷ []) }
     ensures count_bound { result.count ≤ 12 }
@@ -39,6 +41,7 @@ pub fn two(first: u64, second: u64) -> Answer
 }
 
 // A value and the header fields. The OEM ID and the product are texts, given as numbers.
+#[tactic(auto, unfolding(crate::specs::Wire::answer_of, mps::specs::Words::exactly))]
 pub fn with_fields(value: u64, fields: Fields) -> Answer
     ensures value { result ≡ answer_of (value ∷ fields_numbers fields) }
     ensures count_bound { result.count ≤ 12 }

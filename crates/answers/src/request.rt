@@ -87,6 +87,7 @@ pub fn length(q: &[u8], i: usize) -> usize
     numbers::le32(q, LENGTHS + 4 * i) as usize
 }
 
+#[tactic(auto, unfolding(crate::specs::Wire::middle_of))]
 pub fn middle(q: &[u8]) -> usize
     ensures { result ≡ middle_of q.now }
 {

@@ -10,6 +10,8 @@
 // are: where a promise supposes bytes, or numbers of their widths, who makes the call has no more to show. The reading of
 // a contract alone does not say it: what a reference holds is known to the code that is lent it. The last one is lent two
 // rooms: TwoRooms has of it what Determined will have of a public call that is.
+#![tactic(auto)]
+
 ghost use Rattle.std.specs.Prelude.{◌≡◌, replicate};
 ghost use Rattle.std.proofs.lemmas.List.Edits.{sets};
 ghost use Rattle.laws.proofs.Small.{Bytes};

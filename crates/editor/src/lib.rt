@@ -6,6 +6,8 @@
 // The wanted entry is put in, the table is judged again, and the stated bytes and the old checksum are put back where it is
 // refused: no second buffer is needed, and nothing is seen of it. The base is added up once, when the table is first judged: byte 7
 // then comes from the old one and both entries, and what the exchange cannot change is not judged again (module again).
+#![tactic(auto)]
+
 mod again; // the number of a table with an entry exchanged
 
 ghost use Rattle.std.specs.Prelude.{◌≡◌, ◌+◌, ◌%◌, ◌<◌, ◌≤◌, length, slice_set};

@@ -6,6 +6,8 @@
 // specs/Lib.antt.
 //
 // Each answer below is an enum; specs/Answers.antt gives the paper's number and values for each of its cases.
+#![tactic(auto)]
+
 pub mod layout; // the offsets, lengths and limits that the code uses
 
 // What the judge answers of a bare table: "numbers 5 to 18".

@@ -3,3 +3,4 @@
 // can stand, and that layout 1 can be read again.
 //
 // Nothing here runs: each law is about the definitions of mps, and `book`, `saving` and the promises cite them.
+#![tactic(auto)]

@@ -20,3 +20,4 @@
 //   when" (BookNumbers), which book is bad and how editions run (GoodBooks), that nothing is lost over any run (Books), and
 //   what is read of it: bodies, what a restore brings back (BookReads); what a bus sees through its parent, and what of that
 //   is as before (Unclaimed).
+#![tactic(auto)]

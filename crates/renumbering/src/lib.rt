@@ -9,6 +9,8 @@
 // the numbers. So the cost is that of the table, and no number is tried by itself: the lowest that is free is found by the
 // words of both sets. A single set of the used numbers would begin as a copy of the processors', which waits for all that was
 // put in.
+#![tactic(auto)]
+
 ghost use Rattle.std.specs.Prelude.{◌≡◌, ◌≤◌, ◌<◌, length};
 ghost use Rattle.std.proofs.lemmas.List.Edits.{sets};
 ghost use Rattle.mps.specs.Layout.{entry_size, everyone};

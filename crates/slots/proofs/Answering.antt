@@ -1,13 +1,13 @@
 -- The ways out of the listing: what the code has found there, and the answer. Assumes nothing.
 use Prim.Native.Nat.{ℕ, ◌*◌, ◌/◌, ◌≤◌}
 use mathlib.Core.Path.{◌≡◌, sym, ap, ◌∙◌}
-use mathlib.Core.Bool.{Bool, true, false, not, ◌||◌, or-false}
+use mathlib.Core.Bool.{Bool, true, false, ◌||◌, or-false}
 use mathlib.Core.List.{List}
 use native.Mathlib.Omega.{arith}
 use lib.Dec.{leb}
 use lib.ListN.{length}
 use lib.Seq.{sets}
-use borrow.Author.Tests.{leb-true, leb-false, not-true, not-false}
+use borrow.Author.Tests.{leb-true, leb-false}
 use Rattle.mps.specs.Words.{among, keep, joined, below}
 use Rattle.mps.specs.Layout.{Entry, source_bus, source_irq}
 use Rattle.mps.specs.Refusals.{room_number}
@@ -82,13 +82,13 @@ module _ (roll : List ℕ) (es : List Entry) (empty words : List ℕ) (size : le
   total = ap length is ∙ length_slots (members words)
 
   module _ (room : List ℕ) {r : Bool} (told : r ≡ leb (length (members words)) (length room / 3)) where
-    pub set_short : not r ≡ true → (Refused room_number ≡ fitted answer (length answer / slot_size) room) × (room ≡ fit_left answer room)
-    set_short f = fit_short answer (length answer / slot_size) room (omega (arith, total, leb-false (length (members words)) (length room / 3) (sym told ∙ not-true r f)))
+    pub set_short : r ≡ false → (Refused room_number ≡ fitted answer (length answer / slot_size) room) × (room ≡ fit_left answer room)
+    set_short f = fit_short answer (length answer / slot_size) room (omega (arith, total, leb-false (length (members words)) (length room / 3) (sym told ∙ f)))
 
-    pub set_fits : not r ≡ false → length (members words) * 3 ≤ length room
-    set_fits t = omega (arith, leb-true (length (members words)) (length room / 3) (sym told ∙ not-false r t))
+    pub set_fits : r ≡ true → length (members words) * 3 ≤ length room
+    set_fits t = omega (arith, leb-true (length (members words)) (length room / 3) (sym told ∙ t))
 
     pub set_put :
-        not r ≡ false → {q : ℕ} {u : List ℕ} → q ≡ length (joined slot_bytes (members words)) → u ≡ sets room 0 (joined slot_bytes (members words))
+        r ≡ true → {q : ℕ} {u : List ℕ} → q ≡ length (joined slot_bytes (members words)) → u ≡ sets room 0 (joined slot_bytes (members words))
         → (Count (q / slot_size) ≡ fitted answer (length answer / slot_size) room) × (u ≡ fit_left answer room)
     set_put t e g = fit_put answer (length answer / slot_size) room (omega (arith, e, ap length is)) (omega (arith, total, set_fits t)) (rw is g)

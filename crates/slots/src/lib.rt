@@ -6,6 +6,8 @@
 // A slot is a number, and the slots that are named are a set of such numbers, so that the listing needs no sorting and asks
 // for nothing twice. One pass over the type 3 entries makes the set, one over its words writes what is in it. The set has
 // words for the buses up to the highest that is listed, since most tables have few, with low IDs.
+#![tactic(auto)]
+
 ghost use Rattle.std.specs.Prelude.{◌≡◌, false, ◌||◌, ℕ, ◌+◌, ◌*◌, ◌/◌, ◌≤◌, ◌<◌, length, leb};
 ghost use Rattle.std.proofs.lemmas.List.Edits.{sets};
 ghost use Rattle.mps.specs.Words.{among, each, joined};

@@ -22,7 +22,7 @@ loop-at-preserved c =
     let l = c.loop-at in
     let next = seeks_next _ 8 _ l.at l.invariant (omega arith) (omega arith) in
     elim c.if-e-bus.branch [
-      then-e-bus+else-names_pci w ↦ next (pci_other_name _ _ l.at (sym w.names_pci.ensures ∙ w.if-names_pci.false)) refl
+      | then-e-bus+else-names_pci w ↦ next (pci_other_name _ _ l.at (sym w.names_pci.ensures ∙ w.if-names_pci.false)) refl
       | else-e-bus w ↦ next (pci_other_id _ _ l.at w.if-e-bus.false) refl
     ]
 

@@ -14,7 +14,7 @@ loop-at-preserved c =
     let l = c.loop-at in
     let name = sym c.names_pci.ensures in
     elim c.if-names_pci.branch [
-      then-names_pci w ↦ rw w.roll-is (enrolls_on _ _ _ l.at l.invariant (omega arith) (name ∙ w.if-names_pci.true) w.put.ensures)
+      | then-names_pci w ↦ rw w.roll-is (enrolls_on _ _ _ l.at l.invariant (omega arith) (name ∙ w.if-names_pci.true) w.put.ensures)
       | else-names_pci w ↦ rw w.roll-is (enrolls_off _ _ _ l.at l.invariant (omega arith) (name ∙ w.if-names_pci.false))
     ]
 
