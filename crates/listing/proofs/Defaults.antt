@@ -12,7 +12,7 @@ use Rattle.mps.specs.Dump.{sound_dump}
 use Rattle.mps.specs.Pointer.{pointer, is_default, imcr_of}
 use Rattle.mps.specs.Judge.{pointer_rules, table_rules, dump_rules, dump_refusal, table_refusal, held}
 use Rattle.mps.specs.Listing.{listing, list_refusal, listed, list_left}
-use Rattle.mps.specs.Defaults.{default_table, no_default, made, make_left, default_of, wrong_boot, full_listing, full_rules, full_refusal, full_listed, full_left}
+use Rattle.mps.specs.Defaults.{default_table, made, make_left, default_of, wrong_boot, full_listing, full_rules, full_refusal, full_listed, full_left}
 use Rattle.mps.specs.declared.Held.TheVariants.{Default}
 use Rattle.mps.specs.declared.Lent.{Lent}
 use Rattle.mps.specs.declared.Lent.TheVariants.{Count, Refused}

@@ -7,6 +7,8 @@
 // Nothing is written before it is known that all of it fits. Where the room holds the longest listing that such a table can
 // have, that is known at once; else the listing is measured first, by arithmetic. A line that stands alone is made twice
 // by the same function: first in no room at all, which only measures it, then in the room.
+#![tactic(auto)]
+
 ghost use Rattle.std.specs.Prelude.{◌≡◌, ℕ, ◌≤◌, ◌<◌, length};
 ghost use Rattle.std.proofs.lemmas.List.Edits.{sets};
 ghost use Rattle.mps.specs.Layout.{header_size, base_length, extended_end};

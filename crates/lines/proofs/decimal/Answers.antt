@@ -11,7 +11,8 @@ overflow_add-result c =
 pub returns-then-x-lt1000 : goal.returns-then-x-lt1000
 returns-then-x-lt1000 c =
     let args = c.args in
-    let both = behind args.at 6 c.short_decimal.ensures.value c.short_decimal.ensures.out_after (decimal_short args.x args.last) in record { wrote = both.0; upper_bound = both.1 }
+    let both = behind args.at 6 c.short_decimal.ensures.value c.short_decimal.ensures.out_after (decimal_short args.x args.last) in
+    record { wrote = both.0; upper_bound = both.1 }
 
 pub overflow_add-result-2 : goal.overflow_add-result-2
 overflow_add-result-2 c =
@@ -21,4 +22,5 @@ overflow_add-result-2 c =
 pub returns : goal.returns
 returns c =
     let args = c.args in
-    let both = behind args.at 6 c.long_decimal.ensures.value c.long_decimal.ensures.out_after (decimal_short args.x args.last) in record { wrote = both.0; upper_bound = both.1 }
+    let both = behind args.at 6 c.long_decimal.ensures.value c.long_decimal.ensures.out_after (decimal_short args.x args.last) in
+    record { wrote = both.0; upper_bound = both.1 }

@@ -12,4 +12,5 @@ pub returns : goal.returns
 returns c =
     let args = c.args in
     let both = behind args.at 17 c.hexadecimal.ensures.value c.hexadecimal.ensures.out_after
-    (hex_short 16 args.x args.last) in record { wrote = both.0; upper_bound = both.1 }
+    (hex_short 16 args.x args.last) in
+    record { wrote = both.0; upper_bound = both.1 }

@@ -7,4 +7,5 @@ use Rattle.lines.proofs.word.Goals as goal
 
 pub returns : goal.returns
 returns c =
-    let both = behind _ 8 refl (search rules) (omega arith) in record { wrote = both.0; upper_bound = both.1 }
+    let both = behind _ 8 refl (search rules) (omega arith) in
+    record { wrote = both.0; upper_bound = both.1 }

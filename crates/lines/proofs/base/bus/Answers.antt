@@ -13,4 +13,5 @@ shape_of-out c = simp length-set (omega arith)
 pub returns : goal.returns
 unfolding ended text
 returns c =
-    let args = c.args in record { wrote = bus_is (bytes 8 args.e) c.word-a.ensures.wrote c.field-b.ensures.wrote c.name-c.ensures.wrote; upper_bound = omega arith }
+    let args = c.args in
+    record { wrote = bus_is (bytes 8 args.e) c.word-a.ensures.wrote c.field-b.ensures.wrote c.name-c.ensures.wrote; upper_bound = omega arith }

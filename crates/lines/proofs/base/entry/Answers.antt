@@ -7,15 +7,18 @@ use Rattle.lines.proofs.base.entry.Goals as goal
 
 pub returns-then-kind-eq-PROCESSOR_TYPE : goal.returns-then-kind-eq-PROCESSOR_TYPE
 returns-then-kind-eq-PROCESSOR_TYPE c =
-    let args = c.args in record { wrote = cpu_first (bytes 8 args.e) _ c.byte-kind.ensures (omega arith) c.cpu.ensures.wrote; upper_bound = c.cpu.ensures.upper_bound }
+    let args = c.args in
+    record { wrote = cpu_first (bytes 8 args.e) _ c.byte-kind.ensures (omega arith) c.cpu.ensures.wrote; upper_bound = c.cpu.ensures.upper_bound }
 
 pub returns-then-kind-eq-BUS_TYPE : goal.returns-then-kind-eq-BUS_TYPE
 returns-then-kind-eq-BUS_TYPE c =
-    let args = c.args in record { wrote = bus_first (bytes 8 args.e) _ c.byte-kind.ensures (omega arith) c.bus.ensures.wrote; upper_bound = c.bus.ensures.upper_bound }
+    let args = c.args in
+    record { wrote = bus_first (bytes 8 args.e) _ c.byte-kind.ensures (omega arith) c.bus.ensures.wrote; upper_bound = c.bus.ensures.upper_bound }
 
 pub returns-then-kind-eq-IO_APIC_TYPE : goal.returns-then-kind-eq-IO_APIC_TYPE
 returns-then-kind-eq-IO_APIC_TYPE c =
-    let args = c.args in record { wrote = io_apic_first (bytes 8 args.e) _ c.byte-kind.ensures (omega arith) c.io_apic.ensures.wrote; upper_bound = c.io_apic.ensures.upper_bound }
+    let args = c.args in
+    record { wrote = io_apic_first (bytes 8 args.e) _ c.byte-kind.ensures (omega arith) c.io_apic.ensures.wrote; upper_bound = c.io_apic.ensures.upper_bound }
 
 pub returns-then-kind-eq-IO_INTERRUPT_TYPE : goal.returns-then-kind-eq-IO_INTERRUPT_TYPE
 unfolding text

@@ -23,7 +23,8 @@ returns-then-has c =
     let args = c.args in
     rw (← entry_line_is args.e.now c.le64-x.result c.le64-x.ensures
     (λ k. omega (arith, c.type_inv.e k)) (λ q. c.if-kind.false (c.byte-kind.ensures ∙ q)))
-    (let both = direct c.other.ensures.wrote in record { value = both.0; out_after = both.1 })
+    (let both = direct c.other.ensures.wrote in
+    record { value = both.0; out_after = both.1 })
 
 pub returns : goal.returns
 returns c =
@@ -31,4 +32,5 @@ returns c =
     rw (← entry_line_is args.e.now c.le64-x.result c.le64-x.ensures
     (λ k. omega (arith, c.type_inv.e k)) (λ q. c.if-kind.false (c.byte-kind.ensures ∙ q)))
     (let both = buffered args.out.now args.at c.other-n.ensures.upper_bound c.other-n.ensures.wrote c.moved.ensures.value
-    c.moved.ensures.out_after in record { value = both.0; out_after = both.1 })
+    c.moved.ensures.out_after in
+    record { value = both.0; out_after = both.1 })

@@ -9,4 +9,5 @@ use Rattle.lines.proofs.extended.skip.Goals as goal
 pub returns : goal.returns
 unfolding ended text
 returns c =
-    let args = c.args in record { wrote = skip_is (bytes 8 args.e) c.word-a.ensures.wrote c.field-b.ensures.wrote c.field.ensures.wrote; upper_bound = omega arith }
+    let args = c.args in
+    record { wrote = skip_is (bytes 8 args.e) c.word-a.ensures.wrote c.field-b.ensures.wrote c.field.ensures.wrote; upper_bound = omega arith }

@@ -8,4 +8,5 @@ use Rattle.lines.proofs.frame.put_refused.Goals as goal
 pub returns : goal.returns
 unfolding ended text
 returns c =
-    let args = c.args in record { wrote = refused_is args.number c.word-a.ensures.wrote c.decimal.ensures.wrote; upper_bound = omega arith }
+    let args = c.args in
+    record { wrote = refused_is args.number c.word-a.ensures.wrote c.decimal.ensures.wrote; upper_bound = omega arith }

@@ -9,10 +9,12 @@ put_table-requires c =
 
 pub returns-then-has : goal.returns-then-has
 returns-then-has c =
-    let both = direct c.put_table.ensures.wrote in record { value = both.0; out_after = both.1 }
+    let both = direct c.put_table.ensures.wrote in
+    record { value = both.0; out_after = both.1 }
 
 pub returns : goal.returns
 returns c =
     let args = c.args in
     let both = buffered args.out.now args.at c.put_table-n.ensures.upper_bound c.put_table-n.ensures.wrote
-    c.moved.ensures.value c.moved.ensures.out_after in record { value = both.0; out_after = both.1 }
+    c.moved.ensures.value c.moved.ensures.out_after in
+    record { value = both.0; out_after = both.1 }

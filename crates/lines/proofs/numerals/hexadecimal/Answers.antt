@@ -4,4 +4,6 @@ use Rattle.lines.proofs.numerals.hexadecimal.Goals as goal
 
 pub returns : goal.returns
 returns c =
-    let p = c.put_hex in let both = number_fits _ _ _ _ _ (hex_is _ _) _ _ _ _ p.ensures in record { value = both.0; out_after = both.1 }
+    let p = c.put_hex in
+    let both = number_fits _ _ _ _ _ (hex_is _ _) _ _ _ _ p.ensures in
+    record { value = both.0; out_after = both.1 }

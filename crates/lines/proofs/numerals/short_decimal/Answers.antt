@@ -9,7 +9,9 @@ bounds-out-at-then-x-lt10 c = simp length-set (omega arith)
 
 pub returns-then-x-lt10 : goal.returns-then-x-lt10
 returns-then-x-lt10 c =
-    let a = c.args in let both = stored_1 a.x a.last a.out.now a.at (omega arith) in record { value = both.0; out_after = both.1 }
+    let a = c.args in
+    let both = stored_1 a.x a.last a.out.now a.at (omega arith) in
+    record { value = both.0; out_after = both.1 }
 
 pub bounds-out-at-then-x-lt100-2 : goal.bounds-out-at-then-x-lt100-2
 bounds-out-at-then-x-lt100-2 c = simp length-set (omega arith)
@@ -19,7 +21,9 @@ bounds-out-at-then-x-lt100-3 c = simp length-set (omega arith)
 
 pub returns-then-x-lt100 : goal.returns-then-x-lt100
 returns-then-x-lt100 c =
-    let a = c.args in let both = stored_2 a.x a.last a.out.now a.at (omega arith) (omega arith) in record { value = both.0; out_after = both.1 }
+    let a = c.args in
+    let both = stored_2 a.x a.last a.out.now a.at (omega arith) (omega arith) in
+    record { value = both.0; out_after = both.1 }
 
 pub bounds-out-at-3 : goal.bounds-out-at-3
 bounds-out-at-3 c = simp length-set (omega arith)
@@ -32,4 +36,6 @@ bounds-out-at-5 c = simp length-set (omega arith)
 
 pub returns : goal.returns
 returns c =
-    let a = c.args in let both = stored_3 a.x a.last a.out.now a.at (omega arith) (omega arith) in record { value = both.0; out_after = both.1 }
+    let a = c.args in
+    let both = stored_3 a.x a.last a.out.now a.at (omega arith) (omega arith) in
+    record { value = both.0; out_after = both.1 }
