@@ -1,36 +1,15 @@
--- What came in lies within the buffer, and what is written is all of the program's output. Assumes nothing.
-use Prim.Native.Nat.{ℕ, ◌-◌, ◌≤◌}
-use mathlib.Core.Path.{◌≡◌, ap, sym, subst, ◌∙◌}
+-- What is written is all of the program's output. Assumes nothing.
+use Prim.Native.Nat.{ℕ, ◌≤◌}
+use mathlib.Core.Path.{◌≡◌, ap, sym, ◌∙◌}
 use mathlib.Core.List.{List, ◌++◌}
 use native.Mathlib.Omega.{arith}
 use lib.ListN.{length, take, drop, get_or, length-append}
-use lib.Seq.{length-take-le, take_at}
-use borrow.Rule.Slice.PartMut.{put_mid, post_of}
-use Rattle.io.specs.Counts.{IsPrefixLen}
+use lib.Seq.{take_at}
 use Rattle.mps.specs.Answers.{lent_numbers}
 use Rattle.mps.specs.Listing.{program_output, printed, print_left}
 use Rattle.mps.specs.declared.Lent.{Lent}
 use Rattle.mps.specs.declared.Lent.TheVariants.{Count, Refused}
 use Rattle.listing.proofs.Longest.{print_fits_always, print_leaves_always}
-use Rattle.mplist.specs.Input.{Within}
-use Rattle.mplist.specs.declared.Input.{Input}
-use Rattle.mplist.specs.declared.Input.TheVariants.{Bytes as Came}
-
--- ---- What came in
-
-pub counts : (s : List ℕ) {n : ℕ} → n ≤ length s → IsPrefixLen n s
-counts s h = (h, sym (length-take-le _ s h))
-
--- The bytes before a part that was lent to the end and is back.
-pub counts_before : (n : ℕ) (s part : List ℕ) → n ≤ length s → IsPrefixLen n (put_mid n (length s - n) s part)
-counts_before n s part h =
-    let k = length s - n in
-    counts (put_mid n k s part) (omega (arith, length-take-le n s h, length-append (take n s) (part ++ post_of n k s)))
-
-pub came_within : (s : List ℕ) {r : Input} {n : ℕ} → Within s r → r ≡ Came n → IsPrefixLen n s
-came_within s w e = subst (Within s) e w
-
--- ---- What is written
 
 module _ (d room : List ℕ) (h : 65536 ≤ length room) {r : Lent} (e : r ≡ printed d room) where
   pub all_written :
