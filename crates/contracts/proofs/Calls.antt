@@ -1,7 +1,7 @@
 -- Calls of the editor, made one after another by whoever it may be, are a run of the definition: demand 3's promises of a run
 -- hold of the code's own answers, from Rattle and from C. Assumes nothing.
 use Prim.Native.Nat.{ℕ}
-use mathlib.Core.Path.{◌≡◌, refl}
+use mathlib.Core.Path.{◌≡◌, refl, ap, ◌∙◌}
 use mathlib.Core.List.{List, [], ◌∷◌}
 use Rattle.mps.specs.Words.{each}
 use Rattle.mps.specs.Layout.{extended_end, base_entries}
@@ -13,7 +13,7 @@ use Rattle.laws.proofs.Small.{Small}
 use Rattle.editor.specs.Tested.{edit_of}
 use Rattle.editor.proofs.edit.Reads as edit
 use Rattle.exports.specs.Codes.{edited_code}
-use Rattle.exports.proofs.ruxtajma_edit.Reads as ruxtajma_edit_lem
+use Rattle.exports.proofs.ruxtajma_edit.Reads as ruxtajma_edit
 use Rattle.contracts.proofs.Forms.{Call}
 use Rattle.promises.specs.Runs.{accepted, put_in, parts_with}
 use Rattle.promises.proofs.Runs.{Calls, no_call, call, calls_run, calls_entries, calls_fresh, Good, wanted_of}
@@ -69,7 +69,7 @@ module _ (t v : List ℕ) (cs : List Edits) (m : InTurn table_of left_of t cs v)
 -- ---- From C: the same, and each answer's number is that of the run's answer
 
 abbrev pub EditsForC : Type 0
-EditsForC = Call ruxtajma_edit_lem.Post
+EditsForC = Call ruxtajma_edit.Post
 
 abbrev pub table_for_c : EditsForC → List ℕ
 table_for_c c = c.given.0.now
@@ -90,7 +90,8 @@ answer_for_c c = edited (table_for_c c) (asked_for_c c)
 codes_are : (cs : List EditsForC) → each code_for_c cs ≡ each edited_code (each answer_for_c cs)
 unfolding each
 codes_are [] = refl
-codes_are (c ∷ cs) = rw (c.allowed.0, codes_are cs)
+codes_are (c ∷ cs) =
+    ap (λ n. n ∷ each code_for_c cs) c.allowed.0 ∙ ap (λ ns. edited_code (answer_for_c c) ∷ ns) (codes_are cs)
 
 calls_for_c : {t v : List ℕ} {cs : List EditsForC} → InTurn table_for_c left_for_c t cs v → Calls t (each asked_for_c cs) (each answer_for_c cs) v
 unfolding each

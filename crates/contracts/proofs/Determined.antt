@@ -309,7 +309,7 @@ judge_examine_determined κ a x y s t p q = p ∙ sym q
 pub regions_row_determined : Answers regions_row.Post
 regions_row_determined κ a x y s t p q = p ∙ sym q
 
-pub regions_place_of_determined : Decides regions_place_of.ended (λ M 𝓤. regions_place_of.clauses 𝓤)
+pub regions_place_of_determined : Decides regions_place_of.ended (λ M 𝓤 𝓛. regions_place_of.clauses 𝓛)
 regions_place_of_determined M 𝓤 𝓛 mem run κs a g x y s t = both_are 𝓤 x y _
 
 pub regions_place_in_determined : Answers regions_place_in.Post
@@ -343,13 +343,13 @@ dump_read_determined κ a x y s t p q = p ∙ sym q
 
 -- ---- reader
 
-pub reader_open_determined : Decides reader_open.ended (λ M 𝓤. reader_open.clauses 𝓤)
+pub reader_open_determined : Decides reader_open.ended (λ M 𝓤 𝓛. reader_open.clauses 𝓛)
 reader_open_determined M 𝓤 𝓛 mem run κs a g x y s t = both_are 𝓤 x y _
 
-pub reader_here_determined : Decides reader_here.ended (λ M 𝓤. reader_here.clauses 𝓤)
+pub reader_here_determined : Decides reader_here.ended (λ M 𝓤 𝓛. reader_here.clauses 𝓛)
 reader_here_determined M 𝓤 𝓛 mem run κs a g x y s t = both_are 𝓤 x y _
 
-pub reader_next_determined : Decides reader_next.ended (λ M 𝓤. reader_next.clauses 𝓤)
+pub reader_next_determined : Decides reader_next.ended (λ M 𝓤 𝓛. reader_next.clauses 𝓛)
 reader_next_determined M 𝓤 𝓛 mem run κs a g x y s t = both_are 𝓤 x y _
 
 pub reader_entry_determined : Answers reader_entry.Post

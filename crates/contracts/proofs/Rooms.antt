@@ -9,11 +9,11 @@ use Rattle.writer.specs.Laid.{parts_given}
 use Rattle.mps.specs.Answers.{lent_numbers}
 use Rattle.exports.specs.Codes.{count_row, lent_code, refusal_in, fields_given}
 use Rattle.exports.proofs.Told.{refused_in}
-use Rattle.exports.proofs.ruxtajma_write.Reads as ruxtajma_write_lem
+use Rattle.exports.proofs.ruxtajma_write.Reads as ruxtajma_write
 use Rattle.promises.proofs.Kept.{write_kept, write_cleared, write_leaves}
 use Rattle.contracts.proofs.Forms.{Call}
 
-module _ (c : Call ruxtajma_write_lem.Post) where
+module _ (c : Call ruxtajma_write.Post) where
   -- The parts, from the arguments in their order; the room as it was lent, and as it was left.
   abbrev pub parts_for_c : Parts
   parts_for_c =
