@@ -18,7 +18,7 @@ use Rattle.mps.specs.Sections.{span}
 use Rattle.laws.proofs.Tests.{and_parts}
 use Rattle.laws.proofs.Cut.{cut_next, cut_done}
 use Rattle.sections.specs.declared.BaseSections.TheVariants.{Ascending, Faulty}
-use Rattle.runs.specs.Runs.{size_of, bytes, one, Ran}
+use Rattle.runs.specs.Runs.{size_of, bytes, Ran}
 use Rattle.sections.specs.Base.{base_entries_in, base_fault, base_sections, base_own}
 use Rattle.runs.proofs.Pieces.{size_some, first_there, every_cut}
 use Rattle.runs.proofs.Runs.{one_is, one_not, after, Upto, upto_next, upto_stop, Behind, behind_none, behind_next}

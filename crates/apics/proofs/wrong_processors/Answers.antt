@@ -1,6 +1,5 @@
 -- `wrong_processors` meets its contract. The loop's invariant: the rest of the rows, called over the roll as it is, ends as all
 -- of them do, and the bootstrap processors met and those to come are all there are.
-use Prim.Native.Nat.{◌-◌}
 use mathlib.Core.Path.{◌≡◌, refl, sym, ◌∙◌}
 use native.Mathlib.Omega.{arith}
 use native.Mathlib.Nat.{zero-add}

@@ -1,6 +1,6 @@
 -- `known` meets its contract. The loop's invariant: the rest of the rows, called over the roll as it is, ends as all of them
 -- do.
-use Prim.Native.Nat.{◌+◌, ◌-◌, ◌*◌}
+use Prim.Native.Nat.{◌+◌, ◌*◌}
 use mathlib.Core.Path.{◌≡◌, refl, sym, ◌∙◌}
 use native.Mathlib.Omega.{arith}
 use Rattle.buses.proofs.Laws.{quick_at, new_at}

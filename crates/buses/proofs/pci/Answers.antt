@@ -1,5 +1,4 @@
 -- The loop keeps `Enrolls`.
-use Prim.Native.Nat.{◌-◌}
 use mathlib.Core.Path.{refl, sym, ◌∙◌}
 use native.Mathlib.Omega.{arith}
 use Rattle.buses.proofs.Laws.{enrolls_done, enrolls_on, enrolls_off}

@@ -1,6 +1,5 @@
 -- `wrong` meets its contract. The loop's invariant: the rest of the rows, called over the roll as it is, ends as all of them
 -- behind the known do.
-use Prim.Native.Nat.{◌-◌}
 use mathlib.Core.Path.{refl, sym, ◌∙◌}
 use native.Mathlib.Omega.{arith}
 use Rattle.roll.proofs.Laws.{called_done, called_is}

@@ -1,5 +1,4 @@
 -- Those counted, and those from here on, are all (`Counts`).
-use Prim.Native.Nat.{◌-◌}
 use mathlib.Core.List.{[], ◌∷◌}
 use native.Mathlib.Omega.{arith}
 use lib.ListN.{get_or}

@@ -1,5 +1,4 @@
 -- `others` meets its contract. The loop's invariant: the rest answers as the whole does.
-use Prim.Native.Nat.{◌-◌}
 use mathlib.Core.Path.{refl, sym, ◌∙◌}
 use native.Mathlib.Omega.{arith}
 use Rattle.extension.proofs.ExtendedEntries.{others_next, others_stop, others_end}

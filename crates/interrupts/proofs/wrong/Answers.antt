@@ -1,5 +1,4 @@
 -- The loop looks for a wrong entry: `Seeks`, with `seeks_stop`, `seeks_next` and `seeks_done`.
-use Prim.Native.Nat.{◌-◌}
 use mathlib.Core.Path.{refl}
 use native.Mathlib.Omega.{arith}
 use Rattle.laws.proofs.Rows.{seeks_done, seeks_stop, seeks_next}

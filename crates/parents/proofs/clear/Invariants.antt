@@ -1,4 +1,4 @@
-use Prim.Native.Nat.{◌-◌, ◌<◌}
+use Prim.Native.Nat.{◌<◌}
 use mathlib.Core.Path.{◌≡◌}
 use Rattle.parents.specs.Parents.{Array, cleared}
 use Rattle.parents.proofs.clear.Given as goal

@@ -1,6 +1,6 @@
 -- `endless` meets its contract. The loop's invariant: the rows that are left have an endless climb exactly where all rows
 -- have one in the array at the start.
-use Prim.Native.Nat.{◌+◌, ◌-◌}
+use Prim.Native.Nat.{◌+◌}
 use mathlib.Core.Path.{refl, sym, ◌∙◌}
 use native.Mathlib.Omega.{arith}
 use lib.ListN.{get_or}

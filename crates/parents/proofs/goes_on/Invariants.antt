@@ -1,4 +1,4 @@
-use Prim.Native.Nat.{◌-◌, ◌<◌}
+use Prim.Native.Nat.{◌<◌}
 use mathlib.Core.Path.{◌≡◌}
 use Rattle.parents.specs.Parents.{goes_on}
 use Rattle.parents.proofs.goes_on.Given as goal

@@ -1,5 +1,4 @@
 -- `run` meets its contract. The loop's invariant: from `place` on the run goes on as from `at`.
-use Prim.Native.Nat.{◌-◌}
 use native.Mathlib.Omega.{arith}
 use Rattle.runs.proofs.Runs.{upto_start}
 use Rattle.runs.proofs.Pieces.{size_some}

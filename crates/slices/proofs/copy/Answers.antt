@@ -1,5 +1,4 @@
 -- `slices::copy` meets its contract. The loop's invariant: the rest of `s`, stored from `place` on, makes the whole.
-use Prim.Native.Nat.{◌-◌}
 use mathlib.Core.Path.{refl, sym, ◌∙◌}
 use native.Mathlib.Omega.{arith}
 use lib.ListN.{drop, length-set}

@@ -1,5 +1,4 @@
 -- `slices::same` meets its contract. The loop's invariant: the rest of both slices answers as the whole does.
-use Prim.Native.Nat.{◌-◌}
 use mathlib.Core.Path.{refl, sym, ◌∙◌}
 use native.Mathlib.Omega.{arith}
 use Rattle.slices.proofs.Laws.{same_other_length, same_done, same_next, same_stop}

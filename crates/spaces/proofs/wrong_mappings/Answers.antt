@@ -1,5 +1,5 @@
 -- The loop looks for a wrong entry: `Seeks`, with `seeks_stop`, `seeks_next` and `seeks_done`.
-use Rattle.std.proofs.Common.{◌-◌, refl, arith}
+use Rattle.std.proofs.Common.{refl, arith}
 use Rattle.laws.proofs.Rows.{seeks_done, seeks_stop, seeks_next}
 use Rattle.spaces.proofs.wrong_mappings.Goals as goal
 

@@ -1,5 +1,5 @@
 -- What is added up and what is left add to the whole: `total_at` at each turn, `total_done` at the end.
-use Rattle.std.proofs.Common.{◌-◌, arith}
+use Rattle.std.proofs.Common.{arith}
 use Rattle.mps.specs.Sums.{sum256}
 use Rattle.sums.proofs.Laws.{total_at, total_done}
 use Rattle.sums.proofs.sum.Goals as goal

@@ -1,7 +1,6 @@
 -- Each field begins where the one before it ends (`front_is`); the arrays of a `Fields` have the lengths of their types.
-use mathlib.Core.Path.{◌≡◌, sym}
 use native.Mathlib.Omega.{arith}
-use lib.ListN.{length, length-set}
+use lib.ListN.{length-set}
 use Rattle.mps.specs.Words.{text}
 use Rattle.writer.specs.Laid.{front}
 use Rattle.writer.proofs.Laying.{front_is, stays}

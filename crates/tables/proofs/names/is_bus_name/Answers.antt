@@ -1,6 +1,5 @@
 -- `tables::names::is_bus_name` meets its contract. The loop's invariant: the names left answer as all of them do.
 -- That the constants are `bus_names`, antt computes.
-use Prim.Native.Nat.{◌-◌}
 use mathlib.Core.Path.{refl, sym, ◌∙◌}
 use mathlib.Core.List.{[]}
 use native.Mathlib.Omega.{arith}
