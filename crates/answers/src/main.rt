@@ -11,10 +11,9 @@
 // these, and one for the three in the middle, which stand in it one behind the other, as they come and as they go.
 #![tactic(auto)]
 
-ghost use Rattle.std.specs.Prelude.{◌≡◌, ◌≤◌, length, IfOk, vec_len};
+ghost use Rattle.std.specs.Prelude.{◌≡◌, ◌≤◌, length};
 ghost use Rattle.answers.specs.Wire.{head_size, most, middle_of};
 
-use std::alloc::{AllocError, Global};
 use std::io::{Read, Write};
 
 mod calls; // the call of each kind
@@ -25,12 +24,11 @@ mod request; // what is read
 // The program must end, as every function here: it counts its requests, and ends before the count would.
 const LAST: u64 = 18446744073709551615;
 
-// Made once for each slice, of zeros, and on the heap: three of them would fill most of a stack. The `ensures` gives only the
-// length, so that no proof above meets the cells.
-fn buffer(alloc: Global) -> Result<Vec<u8>, AllocError>
-    ensures { IfOk result (λ made. vec_len made ≡ most) }
+// Made once for each slice. The `ensures` gives only the length, so that no proof above meets the cells.
+fn buffer() -> [u8; request::MOST]
+    ensures { most ≡ length result }
 {
-    Vec::from_elem(alloc, 0, request::MOST)
+    [0; request::MOST]
 }
 
 // The call is made, and its answer is written.
@@ -129,10 +127,9 @@ fn serve(rt: HostRuntime, a: &mut [u8], m: &mut [u8], e: &mut [u8])
     }
 }
 
-fn main(rt: HostRuntime) -> Result<(), AllocError> {
-    let mut a = buffer(rt.alloc())?;
-    let mut m = buffer(rt.alloc())?;
-    let mut e = buffer(rt.alloc())?;
-    serve(rt, a.as_mut_slice(), m.as_mut_slice(), e.as_mut_slice());
-    Ok(())
+fn main(rt: HostRuntime) {
+    let mut a = buffer();
+    let mut m = buffer();
+    let mut e = buffer();
+    serve(rt, &mut a, &mut m, &mut e);
 }
