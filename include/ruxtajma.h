@@ -1,6 +1,6 @@
 /*
  * Ruxtajma's calls for C and for any language that can call C.  The library is
- * x86-64; `rt staticlib exports` proves it and writes target/staticlib/libexports.a.
+ * x86-64; `command/prove lib exports_c` proves it and writes target/staticlib/libexports.a.
  *
  * A slice is a pointer and a length.  The caller lends that many readable bytes
  * for the time of the call, writable ones where the pointer is not const, at any
