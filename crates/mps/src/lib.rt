@@ -88,8 +88,8 @@ pub struct Fields {
 }
 
 // The parts of a table, or the number that it is refused with. The base entries are the table's bytes from the header's
-// end to `base`, the extended entries those from there to `end`. Its header fields are read by a call of their own: a
-// function that answers an enum with an array in it is not proved by the toolchain today.
+// end to `base`, the extended entries those from there to `end`. Its header fields are read by a call of their own: the
+// toolchain that this was first written for proved no function that answers an enum with an array in it.
 #[derive(Clone, Copy)]
 pub enum Parted {
     Parts { base: usize, end: usize },
