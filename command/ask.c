@@ -44,7 +44,7 @@ int sees(const struct call *call)
     uint64_t address = number_of("address", call->word[3], 16, UINT64_MAX);
     struct bytes table;
 
-    if (!has_table_or_hint(call, &table))
+    if (!has_table(call, &table))
         return REFUSAL;
     uint64_t answer = ruxtajma_address(table.at, table.length, bus, kind, address);
     unsigned links = ruxtajma_links(answer);

@@ -9,7 +9,7 @@
 
 enum {
     BOOK_MOST = 32768,
-    BASE_LENGTH = 7, NO_BOOK = 27, OVERTAKEN = 28
+    BASE_LENGTH = 7, OVERTAKEN = 28     /* the refusals of which more is said */
 };
 
 static unsigned latest_of(struct bytes book, uint16_t machine)
@@ -169,8 +169,6 @@ static int add(const char *name, const struct addition *a)
             tell_overtaken(&p, a);
         if (ruxtajma_refusal(answer) == BASE_LENGTH)
             tell_behind(a->body);
-        if (ruxtajma_refusal(answer) != NO_BOOK && a->body != NULL)
-            tell_dump(*a->body);
         return REFUSAL;
     }
     unsigned edition = latest_of(p.is, a->machine);

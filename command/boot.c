@@ -48,22 +48,6 @@ bool dump_has_table(const struct call *call, struct bytes *table)
     return true;
 }
 
-/* Behind the refusal of a table: where it is a dump of a default configuration, that, and how one goes on. */
-static void tell_default(struct bytes file, const char *how)
-{
-    unsigned configuration = ruxtajma_default(ruxtajma_read(file.at, file.length));
-
-    if (configuration != 0)
-        printf("it is a dump of default configuration %u\n%s\n", configuration, how);
-}
-
-/* The same for a verb that takes no dump. */
-void tell_dump(struct bytes file)
-{
-    tell_default(file, "for a table to work on, give the processor that booted: 'mpt table --boot 0 DUMP "
-                       "-o board.table', or --boot 1 (the dump does not say which)");
-}
-
 /*
  * The table that a verb asks about, if it is accepted.  Nothing is both a table and a dump: where a
  * dump was to be one and is a table, that is said.
@@ -79,15 +63,4 @@ bool has_table(const struct call *call, struct bytes *table)
     if (ruxtajma_refusal(ruxtajma_judge(table->at, table->length)) == 0)
         printf("it is a table: leave out --boot\n");
     return false;
-}
-
-/* The same; and where a table was to be one and is a dump of a default configuration, that. */
-bool has_table_or_hint(const struct call *call, struct bytes *table)
-{
-    bool accepted = has_table(call, table);
-
-    if (!accepted && call->boot == NULL)
-        tell_default(*table, "for the full table that it stands for, give the processor that booted: "
-                             "--boot 0 or --boot 1 (the dump does not say which)");
-    return accepted;
 }

@@ -130,16 +130,6 @@ static int misfit(const struct log *log, size_t from, const char *table, size_t 
     return REFUSAL;
 }
 
-/* Whether a file is a table; a refusal is said, and of a dump how one goes on. */
-static bool is_table_file(struct bytes file, struct table *t)
-{
-    bool accepted = is_table(file, t);
-
-    if (!accepted)
-        tell_dump(file);
-    return accepted;
-}
-
 /* Back to the first table, and from there, or from the one that was given, on again. */
 static int told(struct table t, const struct log *log, const struct call *call)
 {
@@ -151,7 +141,7 @@ static int told(struct table t, const struct log *log, const struct call *call)
         return misfit(log, 0, call->word[0], log->bad, "is no line of a log");
     if ((line = back(t.file, log)) != 0)
         return misfit(log, 0, call->word[0], line, "cannot be taken out of it");
-    if (!shown && !is_table_file(taken(call->first, FILE_MOST + 1), &t))
+    if (!shown && !is_table(taken(call->first, FILE_MOST + 1), &t))
         return REFUSAL;
     if ((line = forth(&t, log, shown)) != 0)
         return misfit(log, shown ? line - 1 : 0, shown ? call->word[0] : call->first, line,
@@ -177,7 +167,7 @@ int history(const struct call *call)
     struct log log;
 
     read_locked(&p);
-    if (!is_table_file(p.was, &t) || !has_log(&p, &log))
+    if (!is_table(p.was, &t) || !has_log(&p, &log))
         return REFUSAL;
     if (log.count == 0 && log.rest.length == 0 && call->first == NULL) {
         printf("no edit is logged\n");

@@ -62,7 +62,6 @@ int edit(const struct call *call)
     if (refused(answer)) {
         if (ruxtajma_refusal(answer) == CHANGED)
             say_changed(&p, r.place);
-        tell_dump(p.was);
         return REFUSAL;
     }
     exchange(&p, by, change_words(r.place, r.stated, r.wanted));

@@ -131,8 +131,6 @@ size_t entries_of(const struct table *table, struct entry **all);
 uint8_t boot_of(const struct call *call);
 bool dump_has_table(const struct call *call, struct bytes *table);
 bool has_table(const struct call *call, struct bytes *table);
-bool has_table_or_hint(const struct call *call, struct bytes *table);
-void tell_dump(struct bytes file);
 
 /* parts.c: the fields of a table's header that differ. */
 void tell_fields(const uint8_t *before, const uint8_t *after);

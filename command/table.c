@@ -19,7 +19,7 @@ bool table_of(const struct call *call, struct table *table)
 {
     struct bytes file;
 
-    return has_table_or_hint(call, &file) && is_table(file, table);
+    return has_table(call, &file) && is_table(file, table);
 }
 
 struct bytes entry_from(const struct table *table, size_t at)

@@ -40,13 +40,6 @@ VERSIONS = {"82489DX": 0x01, "Integrated": 0x10}
 BEHIND = {"list": [], "table": [], "entries": [], "routes": ["INT", "0", "1"], "slots": [], "slot": ["1", "0", "A"], "renumber": [],
           "sees": ["0", "io", "3F8"], "parts": []}
 
-# How one goes on, behind the refusal of a verb that takes --boot.
-IN_FULL = ("for the full table that it stands for, give the processor that booted: --boot 0 or --boot 1 (the dump does not say "
-           "which)\n").encode()
-# The same of the verbs that take no dump.
-TAKE_OUT = ("for a table to work on, give the processor that booted: 'mpt table --boot 0 DUMP -o board.table', or --boot 1 (the dump "
-            "does not say which)\n").encode()
-
 
 def row_of(configuration):
     """Of Table 5-1: the buses, and the APIC type."""

@@ -10,7 +10,7 @@ import resource
 import boards
 import harness
 from boards import BENCH, RICH, base_entries, dump, listing, pointer, put, rom
-from chapter5 import BEHIND, IN_FULL, SEVEN, TAKE_OUT, asked, connected, dumps, made, row_of
+from chapter5 import BEHIND, SEVEN, asked, connected, dumps, made, row_of
 from rows import BOOK
 
 TOO_HIGH = ["2", "3", "7", "0x2", "128", "255", "0xFF"]
@@ -392,16 +392,16 @@ class Refused(harness.Case):
         self.unchanged(before)
 
 
-# The verbs of a table that say of a dump of a default configuration what it is.
-HINTING = ["entries", "sees", "parts"]
 # The verbs that change a table's file or keep it, of board.dump.
 TAKING_NONE = [["edit", "board.dump", "3", "00", "01"], ["edit", "board.dump", "3", "0300000000010201", "--set", "input=9"],
                ["log", "board.dump"], ["log", "--check", "board.table", "board.dump"], ["log", "--check", "board.dump", "board.table"],
                ["book", "save", "boards.book", "9", "--began", "0", "board.dump"]]
 
 
-class Hints(harness.Case):
-    """Without --boot: of some verbs what a dump of a default configuration is, and how one goes on; with it, that a table is none."""
+class Without(harness.Case):
+    """Without --boot a dump of a default configuration is answered as before ask 6, by the refusal alone; with it, a table is said to
+    be one.
+    """
 
     def test_help(self):
         for verb in BEHIND:
@@ -421,24 +421,22 @@ class Hints(harness.Case):
                 self.assertEqual(list(self.files()), ["board.dump"])
 
     def test_verbs_of_a_table(self):
-        """A dump is no table: 5 of a short one and 6 of others, and then, of some verbs, what it is."""
+        """A dump is no table: 5 of a short one and 6 of others, and nothing more."""
         for configuration in SEVEN:
-            hint = b"it is a dump of default configuration %d\n" % configuration + IN_FULL
             for (content, _), number in zip(dumps(configuration), (5, 6, 6, 6)):
                 self.put("board.dump", content)
                 for verb, behind in BEHIND.items():
                     if verb in ("list", "table"):
                         continue
-                    more = hint if verb in HINTING else None
                     with self.subTest(configuration=configuration, verb=verb, number=number):
-                        self.refuses([verb, "board.dump", *behind], number, more=more)
+                        self.refuses([verb, "board.dump", *behind], number)
                         if configuration == 1:
-                            self.refuses([verb, "-", *behind], number, more=more, input=content)
-        self.refuses(["parts", "board.dump", "-o", "board.txt"], 6, more=hint)
+                            self.refuses([verb, "-", *behind], number, input=content)
+        self.refuses(["parts", "board.dump", "-o", "board.txt"], 6)
         self.assertEqual(list(self.files()), ["board.dump"])
 
-    def test_only_there(self):
-        """Not of a dump with a table, of one that is refused, or of a table; nor where --boot is given."""
+    def test_as_others(self):
+        """The same of a dump with a table, of one that is refused, and of a refused table."""
         for content, number in ((rom(pointer(0xF0010), BENCH), 6), (rom(pointer(0, 8)), 5), (rom(pointer(0, 5), bytes(64)) + b"\x00", 6),
                                 (put(BENCH, 95, 1), 8), (b"", 5)):
             self.put("board.file", content)
@@ -452,22 +450,21 @@ class Hints(harness.Case):
         self.answers(["slots", "board.table"], NO_SLOTS)
 
     def test_verbs_that_take_no_dump(self):
-        """A table has to be made of it first. No file is changed, and no log made."""
+        """The refusal alone, too. No file is changed, and no log made."""
         self.put("board.table", BENCH)
         self.put("boards.book", BOOK)
         for configuration in SEVEN:
-            more = b"it is a dump of default configuration %d\n" % configuration + TAKE_OUT
             for (content, _), number in zip(dumps(configuration), (5, 6, 6, 6)):
                 self.put("board.dump", content)
                 before = self.files()
                 for words in TAKING_NONE:
                     with self.subTest(words, configuration=configuration, number=number):
-                        self.refuses(words, number, more=more)
-                self.refuses(["book", "save", "boards.book", "7", "--began", "1", "-"], number, more=more, input=content)
+                        self.refuses(words, number)
+                self.refuses(["book", "save", "boards.book", "7", "--began", "1", "-"], number, input=content)
                 self.unchanged(before)
 
-    def test_verbs_that_take_no_dump_only_there(self):
-        """Not of a dump with a table or of one that is refused; nor where the book is."""
+    def test_verbs_that_take_no_dump_as_others(self):
+        """The same of a dump with a table and of one that is refused; and a bad book comes first."""
         self.put("board.table", BENCH)
         self.put("boards.book", BOOK)
         for content, number in ((rom(pointer(0xF0010), BENCH), 6), (rom(pointer(0, 8)), 5), (put(BENCH, 95, 1), 8), (b"", 5)):
@@ -489,7 +486,7 @@ class Hints(harness.Case):
         self.refuses(["slots", "--boot", "0", "-"], 1, more=b"it is a table: leave out --boot\n", input=BENCH)
 
     def test_neither(self):
-        """A table with a byte spoilt gets no hint."""
+        """A table with a byte spoilt is not said to be one."""
         for at, byte, number in ((0, 0, 6), (0, 1, 6), (0, 8, 6), (0, 9, 6), (47, 0, 8)):
             self.put("board.file", put(made(5, 0), at, byte))
             self.refuses(["entries", "board.file"], number)
