@@ -15,29 +15,28 @@ use mps::layout;
 
 // Every test is made, by `|`: in a table that is accepted none of them is so, and nothing would be saved by stopping at
 // the first. k is the bit of those that a destination may name.
-fn wrong_one(s: &[u8], at: usize, roll: &[u8; 256], k: u8, most: u8) -> bool
-    requires { at + entry_size ≤ length s.now }
-    ensures { result ≡ wrong_interrupt_in roll.now (k % 8) most (take entry_size (drop at s.now)) }
+fn wrong_one(e: &[u8], roll: &[u8; 256], k: u8, most: u8) -> bool
+    requires { length e.now ≡ entry_size }
+    ensures { result ≡ wrong_interrupt_in roll.now (k % 8) most e.now }
 {
-    let flags = s[at + layout::INTERRUPT_FLAGS];
-    (layout::INTERRUPT_TYPE_MOST < s[at + layout::INTERRUPT_TYPE])
+    let flags = e[layout::INTERRUPT_FLAGS];
+    (layout::INTERRUPT_TYPE_MOST < e[layout::INTERRUPT_TYPE])
         | (flags % 4 == layout::RESERVED_MODE)
         | (flags / 4 % 4 == layout::RESERVED_MODE)
-        | !roll::has(roll, s[at + layout::SOURCE_BUS], roll::BUS)
-        | !roll::has(roll, s[at + layout::DESTINATION], k)
-        | (most < s[at + layout::INPUT])
+        | !roll::has(roll, e[layout::SOURCE_BUS], roll::BUS)
+        | !roll::has(roll, e[layout::DESTINATION], k)
+        | (most < e[layout::INPUT])
 }
 
 // Whether some entry is wrong, of entries of 8 bytes each, one behind the other.
+#[tactic(auto, using(laws::proofs::Rows::any_end, laws::proofs::Rows::any_stop, laws::proofs::Rows::any_next))]
 fn wrong(s: &[u8], roll: &[u8; 256], k: u8, most: u8) -> bool
     ensures { result ≡ any (wrong_interrupt_in roll.now (k % 8) most) (rows entry_size s.now) }
 {
-    let mut at = 0;
-    while layout::ENTRY_SIZE <= s.len() - at {
-        if wrong_one(s, at, roll, k, most) {
+    for e in s.chunks_exact(layout::ENTRY_SIZE) {
+        if wrong_one(e, roll, k, most) {
             return true;
         }
-        at += layout::ENTRY_SIZE;
     }
     false
 }

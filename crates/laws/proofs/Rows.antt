@@ -2,9 +2,10 @@
 use Prim.Native.Nat.{ℕ, zero, suc, pred, ◌+◌, ◌-◌, ◌/◌, ◌≤◌, ◌<◌}
 use mathlib.Core.Path.{◌≡◌, refl, sym, ◌∙◌}
 use mathlib.Core.Bool.{Bool, true, false}
-use mathlib.Core.List.{List, [], ◌∷◌}
+use mathlib.Core.List.{List, [], ◌∷◌, ◌++◌}
 use native.Mathlib.Omega.{arith}
-use lib.ListN.{length, get_or, take, drop, length-drop, drop_of_length-le}
+use lib.ListN.{length, get_or, take, drop, length-drop, length-append, drop_of_length-le}
+use Rattle.std.proofs.lemmas.List.{take_at, drop_at}
 use lib.Seq.{get_or-drop, get_or-take, length-take-le, take_all}
 use lib.Dec.{ltb}
 use borrow.Author.Tests.{eq-eqb, ne_eqb, ltb-true, ltb-false}
@@ -74,6 +75,29 @@ module _ (p : Entry → Bool) (n : ℕ) (s : List ℕ) (at : ℕ) (inv : Seeks p
 
     pub seeks_next : r ≡ false → Seeks p n s (at + n)
     seeks_next t = (sym (seek_next p n s at z inv.1 f (sym e ∙ t)) ∙ inv.0, omega (arith, f, inv.1))
+
+-- A loop over the pieces that `chunks_exact` cuts off, a row each: those that are left are the rows of what is left.
+pub rows_cut : (n : ℕ) (e rest : List ℕ) → 0 < n → length e ≡ n → rows n (e ++ rest) ≡ e ∷ rows n rest
+rows_cut n [] rest z h = absurd (omega (arith, z, h))
+rows_cut n (x ∷ e) rest z h =
+    let s = x ∷ e ++ rest in
+    let k : 0 + n ≡ n = omega arith in
+    (rw k at (rows_next n s 0 z (omega arith) (omega (arith, length-append (x ∷ e) rest, h))))
+    ∙ rw (take_at (x ∷ e) rest n h, drop_at (x ∷ e) rest n h)
+
+module _ (p : Entry → Bool) (n : ℕ) (rest : List ℕ) where
+  pub any_end : length rest < n → any p (rows n rest) ≡ false
+  unfolding any
+  any_end f = rw (rows_short n rest f)
+
+  module _ (e left : List ℕ) (z : 0 < n) (h : length e ≡ n) (c : rest ≡ e ++ left) where
+    pub any_stop : p e ≡ true → any p (rows n rest) ≡ true
+    unfolding any
+    any_stop t = rw (c, rows_cut n e left z h, t)
+
+    pub any_next : p e ≡ false → any p (rows n rest) ≡ any p (rows n left)
+    unfolding any
+    any_next t = rw (c, rows_cut n e left z h, t)
 
 -- What is so of no rows, and of one row and those behind it where it is so of those, is so of all rows from a place on. P
 -- is told the place too; k is any number of bytes that the rest does not pass.
