@@ -1,5 +1,5 @@
 -- Laws of `answered`: what a call answers by its number, and what the number is by what was answered. Assumes nothing.
-use Prim.Native.Nat.{ℕ, zero, suc, ◌≤◌, ◌<◌}
+use Prim.Native.Nat.{ℕ, zero, suc}
 use mathlib.Core.Path.{◌≡◌, refl, ap, sym, ◌∙◌}
 use mathlib.Core.Bool.{Bool, true, false, not, true≢false}
 use mathlib.Core.List.{List, [], ◌∷◌}
@@ -7,13 +7,12 @@ use native.Mathlib.Omega.{arith}
 use lib.Dec.{eqb}
 use borrow.Author.Tests.{eqb-true, ne_eqb}
 use Rattle.std.specs.Prelude.{Result, Ok, Err}
-use Rattle.mps.specs.Words.{among, any, each, first}
+use Rattle.mps.specs.Words.{among, any, each}
 use Rattle.mps.specs.Refusals.{Rule, ◌when◌, refusal}
 use Rattle.mps.specs.Reasons.{number_of_refusal, refusals, named, refusal_numbered}
 use Rattle.mps.specs.Answers.{number_of, answered, numbers_of}
 use Rattle.mps.specs.declared.refusals.Refusal.{Refusal}
 use Rattle.laws.proofs.Tests.{whether, or_parts}
-use Rattle.laws.proofs.Refusals.{number}
 
 -- ---- What is answered
 
@@ -101,4 +100,3 @@ answered_number values (suc n) a h = number_numbered (suc n) (λ z. absurd (omeg
 -- and a refusal has it alone.
 pub refused_numbers : {A : Type 0} (values : A → List ℕ) (n : ℕ) (a : A) → Known (suc n) → numbers_of values (answered (suc n) a) ≡ suc n ∷ []
 refused_numbers values n a h = rw (number_numbered (suc n) (λ z. absurd (omega (arith, z))) h)
-

@@ -7,35 +7,35 @@ ghost use Rattle.mps.specs.declared.refusals.EditRefusal.TheVariants.{Refused};
 // In the order of the numbers, 1 to 30 without 23, which an edit alone gives.
 #[derive(Clone, Copy, Debug, PartialEq, Eq)]
 pub enum Refusal {
-    BadDump,          // 1
-    NoPointer,        // 2
-    PointerRevision,  // 3
-    FeatureByte,      // 4
-    HeaderCut,        // 5
-    Signature,        // 6
-    BaseLength,       // 7
-    BaseSum,          // 8
-    Revision,         // 9
-    EntryType,        // 10
-    EntryCut,         // 11
-    EntryOrder,       // 12
-    ExtendedPart,     // 13
-    Processors,       // 14
-    Buses,            // 15
-    IoApics,          // 16
-    Interrupts,       // 17
-    Spaces,           // 18
-    RoomTooSmall,     // 19
-    NoEntry,          // 20
-    OtherEntry,       // 21
-    Changed,          // 22
-    Query,            // 24
-    Slot,             // 25
-    NumbersUsedUp,    // 26
-    BadBook,          // 27
-    NotLatest,        // 28
-    BookFull,         // 29
-    NoDefault,        // 30
+    BadDump, // 1
+    NoPointer, // 2
+    PointerRevision, // 3
+    FeatureByte, // 4
+    HeaderCut, // 5
+    Signature, // 6
+    BaseLength, // 7
+    BaseSum, // 8
+    Revision, // 9
+    EntryType, // 10
+    EntryCut, // 11
+    EntryOrder, // 12
+    ExtendedPart, // 13
+    Processors, // 14
+    Buses, // 15
+    IoApics, // 16
+    Interrupts, // 17
+    Spaces, // 18
+    RoomTooSmall, // 19
+    NoEntry, // 20
+    OtherEntry, // 21
+    Changed, // 22
+    Query, // 24
+    Slot, // 25
+    NumbersUsedUp, // 26
+    BadBook, // 27
+    NotLatest, // 28
+    BookFull, // 29
+    NoDefault, // 30
 }
 
 impl Refusal {

@@ -1,6 +1,6 @@
 -- The base entries: their walk as one of Walks.antt, one entry by itself, what the loops meet at a place, and what an
 -- accepted walk tells of every entry. Assumes nothing.
-use Prim.Native.Nat.{ℕ, zero, suc, ◌+◌, ◌-◌, ◌*◌, ◌/◌, ◌≤◌, ◌<◌}
+use Prim.Native.Nat.{ℕ, suc, ◌+◌, ◌-◌, ◌*◌, ◌/◌, ◌≤◌, ◌<◌}
 use mathlib.Core.Path.{◌≡◌, refl, ap, sym, ◌∙◌}
 use mathlib.Core.Bool.{Bool, true, false, cond}
 use mathlib.Core.List.{List, [], ◌∷◌}
@@ -303,7 +303,7 @@ module _ (s : List ℕ) (count buses apics interrupts locals end : ℕ) (at : Ru
     unfolding base_sections base_fault refusal_numbered
     base_miscounted d = rw (walk_whole, count_is, ne_eqb (buses / 20 + (length s - buses) / 8) count d)
 
-    pub base_sound : buses / 20 + (length s - buses) / 8 ≡ count 
+    pub base_sound : buses / 20 + (length s - buses) / 8 ≡ count
         → Ok (record { buses = buses; ioapics = apics; interrupts = interrupts; locals = locals }) ≡ base_sections s count
     unfolding base_sections base_fault
     base_sound c =

@@ -9,14 +9,12 @@ pub returns-then-t-lt-HEADER_SIZE : goal.returns-then-t-lt-HEADER_SIZE
 unfolding refusal_numbered
 returns-then-t-lt-HEADER_SIZE c = told tt (is_cut _ c.if-t-lt-HEADER_SIZE.true)
 
-
 pub slice_bounds-same-end : goal.slice_bounds-same-end
 slice_bounds-same-end c = signature_size c.args.t.now c.if-t-lt-HEADER_SIZE.false
 
 pub returns-then-same : goal.returns-then-same
 unfolding refusal_numbered
 returns-then-same c = c.behind_signature.ensures ∙ told tt (is_signed _ (omega arith) (sym c.same.ensures ∙ c.if-same.true))
-
 
 pub returns : goal.returns
 unfolding refusal_numbered
