@@ -87,11 +87,31 @@ def function_at(text, match, crate, modules, file):
     return Function(crate, modules, match[1], file, parameters, result, **clauses)
 
 
+def methods(text, file):
+    """Where the methods of each type stand: from, to, the type. What a trait asks for is no public function."""
+    blocks = []
+    for block in re.finditer(r"\bimpl\b([^{]*)\{", text):
+        of = re.fullmatch(r"\s*(\w+)\s*", block[1])
+        if not of and " for " not in block[1]:
+            raise Unreadable(f"{file}: `{block[0]}`: no path is known here for a function inside it")
+        blocks.append((block.start(), closing(text, block.end() - 1), of and of[1]))
+    return blocks
+
+
 def functions_of(text, crate, modules, file):
     text = without_comments(text)
-    for wrong in re.findall(r"\b(?:impl\b[^{]*|mod\s+\w+\s*)\{", text):
+    for wrong in re.findall(r"\bmod\s+\w+\s*\{", text):
         raise Unreadable(f"{file}: `{wrong}`: no path is known here for a function inside it")
-    return [function_at(text, m, crate, modules, file) for m in PUBLIC.finditer(text)]
+    blocks = methods(text, file)
+    found = []
+    for m in PUBLIC.finditer(text):
+        inside = [of for start, end, of in blocks if start < m.start() < end and of]
+        function = function_at(text, m, crate, modules + inside, file)
+        for at, (name, kind) in enumerate(function.parameters):
+            if inside and name.lstrip("&").split()[-1] == "self" and not kind:
+                function.parameters[at] = ("self", name[:-4] + inside[0])
+        found.append(function)
+    return found
 
 
 def libraries():
