@@ -2,6 +2,7 @@
 use Prim.Native.Nat.{ℕ, zero, suc, ◌<◌}
 use mathlib.Core.Path.{◌≡◌, refl, ap, sym, ◌∙◌}
 use mathlib.Core.Bool.{Bool, true, false, not, true≢false}
+use mathlib.Core.Logic.{◌↔◌}
 use mathlib.Core.List.{List, [], ◌∷◌}
 use native.Mathlib.Omega.{arith}
 use lib.Dec.{eqb}
@@ -135,3 +136,47 @@ refusal_small BadBook = (omega arith, omega arith, refl)
 refusal_small NotLatest = (omega arith, omega arith, refl)
 refusal_small BookFull = (omega arith, omega arith, refl)
 refusal_small NoDefault = (omega arith, omega arith, refl)
+
+-- A refusal is the one of its number.
+pub numbered_number : (r : Refusal) → refusal_numbered (number_of_refusal r) ≡ r
+unfolding refusal_numbered
+numbered_number BadDump = refl
+numbered_number NoPointer = refl
+numbered_number PointerRevision = refl
+numbered_number FeatureByte = refl
+numbered_number HeaderCut = refl
+numbered_number Signature = refl
+numbered_number BaseLength = refl
+numbered_number BaseSum = refl
+numbered_number Revision = refl
+numbered_number EntryType = refl
+numbered_number EntryCut = refl
+numbered_number EntryOrder = refl
+numbered_number ExtendedPart = refl
+numbered_number Processors = refl
+numbered_number Buses = refl
+numbered_number IoApics = refl
+numbered_number Interrupts = refl
+numbered_number Spaces = refl
+numbered_number RoomTooSmall = refl
+numbered_number NoEntry = refl
+numbered_number OtherEntry = refl
+numbered_number Changed = refl
+numbered_number Query = refl
+numbered_number Slot = refl
+numbered_number NumbersUsedUp = refl
+numbered_number BadBook = refl
+numbered_number NotLatest = refl
+numbered_number BookFull = refl
+numbered_number NoDefault = refl
+
+-- ---- What is answered, exactly when
+
+module _ {A : Type 0} (n : ℕ) (a : A) where
+  pub ok_exactly : (answered n a ≡ Ok a) ↔ (n ≡ 0)
+  ok_exactly = (λ e. (given_ok n a (sym e)).0, λ z. sym (answered_ok n a z))
+
+  pub err_exactly : (r : Refusal) → Known n → (answered n a ≡ Err r) ↔ (n ≡ number_of_refusal r)
+  err_exactly r k =
+      (λ e. let g = given_err n a (sym e) in sym (number_numbered n g.0 k) ∙ ap number_of_refusal (sym g.1),
+      λ h. sym (answered_err n a (λ z. absurd (omega (arith, refusal_small r, h, z))) (sym (numbered_number r) ∙ ap refusal_numbered (sym h))))
