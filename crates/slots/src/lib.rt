@@ -22,6 +22,9 @@ ghost use Rattle.slots.specs.Sets.{slots_most, slot_number, named_on, listed_on,
 
 use mps::{Examined, Lent, Sections, layout};
 
+// How many slots a bus has, as a part of a slot's number.
+const BUS_SLOTS: usize = layout::BUS_SLOTS as usize;
+
 // The slots stand in the room from its first byte on.
 pub fn list(t: &[u8], out: &mut [u8]) -> Lent
     ensures value { result ≡ slots_listed t.now out.old }
@@ -60,16 +63,11 @@ fn of_table(t: &[u8], p: Sections, out: &mut [u8]) -> Lent
 fn top(s: &[u8]) -> usize
     ensures { (0 < result) × (result ≤ 256) × ((x : ℕ) → result ≤ x → among x (each id_of (rows entry_size s.now)) ≡ false) }
 {
-    let mut top = 1;
-    let mut at = 0;
-    while layout::ENTRY_SIZE <= s.len() - at {
-        let id = numbers::wide(s[at + layout::ENTRY_ID]) as usize;
-        if top <= id {
-            top = id + 1;
-        }
-        at += layout::ENTRY_SIZE;
+    let mut top: u8 = 0;
+    for e in s.chunks_exact(layout::ENTRY_SIZE) {
+        top = top.max(e[layout::ENTRY_ID]);
     }
-    top
+    usize::from(top) + 1
 }
 
 // The slots that the entries name on the buses of the roll, by an empty set that has words for these.
@@ -93,9 +91,10 @@ fn of_set(set: &mut [u64], pci: &[u8; 256], s: &[u8], out: &mut [u8]) -> Lent
 
 // The number of the slot that a source names.
 fn number(bus: u8, irq: u8) -> usize
-    ensures { result ≡ slot_number bus irq }
+    ensures value { result ≡ slot_number bus irq }
+    ensures upper_bound { result < slots_most }
 {
-    numbers::wide(bus) as usize * layout::BUS_SLOTS as usize + (irq % layout::BUS_SLOTS) as usize
+    usize::from(bus) * BUS_SLOTS + usize::from(irq) % BUS_SLOTS
 }
 
 // Puts in what the entries name on the buses of the roll. Those of one bus mostly stand one behind the other: the word that
@@ -106,19 +105,17 @@ fn note(set: &mut [u64], pci: &[u8; 256], s: &[u8])
 {
     let mut k = 0;
     let mut word = set[0];
-    let mut at = 0;
-    while layout::ENTRY_SIZE <= s.len() - at {
-        let bus = s[at + layout::SOURCE_BUS];
+    for e in s.chunks_exact(layout::ENTRY_SIZE) {
+        let bus = e[layout::SOURCE_BUS];
         if roll::has(pci, bus, roll::BUS) {
-            let n = number(bus, s[at + layout::SOURCE_IRQ]);
+            let n = number(bus, e[layout::SOURCE_IRQ]);
             if n / 64 != k {
                 set[k] = word;
                 k = n / 64;
                 word = set[k];
             }
-            word = word | (1 << (n % 64));
+            word |= 1 << (n % 64);
         }
-        at += layout::ENTRY_SIZE;
     }
     set[k] = word;
 }
@@ -130,10 +127,8 @@ fn count(set: &[u64]) -> usize
     ensures { result ≡ length (members set.now) }
 {
     let mut n = 0;
-    let mut k = 0;
-    while k < set.len() {
-        n += u64::count_ones(set[k]) as usize;
-        k += 1;
+    for word in set {
+        n += word.count_ones() as usize;
     }
     n
 }
@@ -154,8 +149,8 @@ fn put_slot(out: &mut [u8], at: usize, n: usize)
     requires { (n < slots_most) × (at + slot_size ≤ length out.old) }
     ensures { out.new ≡ sets out.old at (slot_bytes n) }
 {
-    let source = (n % layout::BUS_SLOTS as usize) as u8;
-    out[at] = (n / layout::BUS_SLOTS as usize) as u8;
+    let source = (n % BUS_SLOTS) as u8;
+    out[at] = (n / BUS_SLOTS) as u8;
     out[at + 1] = source / layout::PINS;
     out[at + 2] = source % layout::PINS;
 }
@@ -170,9 +165,9 @@ fn put_word(out: &mut [u8], at: usize, word: u64, first: usize) -> usize
     let mut place = at;
     let mut rest = word;
     while rest != 0 {
-        put_slot(out, place, first + u64::trailing_zeros(rest) as usize);
+        put_slot(out, place, first + rest.trailing_zeros() as usize);
         place += layout::SLOT_SIZE;
-        rest = rest & (rest - 1);
+        rest &= rest - 1;
     }
     place
 }
@@ -184,10 +179,8 @@ fn write(out: &mut [u8], set: &[u64]) -> usize
     ensures out_after { out.new ≡ sets out.old 0 (joined slot_bytes (members set.now)) }
 {
     let mut place = 0;
-    let mut k = 0;
-    while k < set.len() {
-        place = put_word(out, place, set[k], k * 64);
-        k += 1;
+    for (k, word) in set.iter().enumerate() {
+        place = put_word(out, place, *word, k * 64);
     }
     place
 }
