@@ -29,6 +29,8 @@ use Rattle.laws.proofs.Lists.{keep_most}
 use Rattle.judge.specs.Placed.{Placed}
 use Rattle.accepted.proofs.Sound.{sound, entries_least}
 use Rattle.apics.specs.Enabled.{enabled_in}
+use Rattle.routes.specs.declared.Side.{Side as Asked}
+use Rattle.routes.specs.declared.Side.TheVariants.{Io, Local}
 use Rattle.routes.specs.Pairs.{side_of, pairs_of, named, pairs_for, pairs_in, count_in, told, meant}
 use Rattle.roll.specs.Roll.{taken_bit, enrolled, OnRoll}
 use Rattle.roll.proofs.Laws.{enrolled_on}
@@ -143,13 +145,13 @@ module _ (t : List ℕ) (p : Sections) (a : table_refusal t ≡ 0) (placed : Pla
   local_ready = (omega arith, local_apart t p placed a, entries_few t a local_interrupt_type _ placed.locals)
 
   -- The answer of a side.
-  module _ (local : Bool) (test : Entry → Bool) (room : List ℕ) {n : ℕ} {u : List ℕ} where
-    pub io_gives : local ≡ false
+  module _ (side : Asked) (test : Entry → Bool) (room : List ℕ) {n : ℕ} {u : List ℕ} where
+    pub io_gives : side ≡ Io
         → Gives (pairs_in (enabled_in entry_size (part p.ioapics p.interrupts t)) test (rows entry_size (part p.interrupts p.locals t))) room n u
-        → Gives (pairs_of (side_of local) test t) room n u
+        → Gives (pairs_of (side_of side) test t) room n u
     io_gives l g = rw (l, io_pairs t p placed a test) g
 
-    pub local_gives : local ≡ true
+    pub local_gives : side ≡ Local
         → Gives (pairs_in (enabled_in processor_size (part header_size p.buses t)) test (rows entry_size (part p.locals p.mappings t))) room n u
-        → Gives (pairs_of (side_of local) test t) room n u
+        → Gives (pairs_of (side_of side) test t) room n u
     local_gives l g = rw (l, local_pairs t p placed a test) g

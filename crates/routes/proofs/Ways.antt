@@ -22,6 +22,7 @@ use Rattle.laws.proofs.Lists.{among_first, among_rest, among_cases}
 use Rattle.laws.proofs.Refusals.{number, refusal_stop, refusal_go, refusal_end}
 use Rattle.judge.specs.Placed.{Placed}
 use Rattle.judge.proofs.Laws.{placed_listed, placed_pci}
+use Rattle.routes.specs.declared.Side.{Side as Asked}
 use Rattle.routes.specs.Pairs.{side_of, wired, pairs_of, meant}
 use Rattle.routes.proofs.Laws.{line_pairs, slot_pairs}
 use Rattle.routes.proofs.Numbers.{Answers, own_refused, own_passed, line_own, line_some, AnswersLine, line_answers, slot_own, slot_some, AnswersSlot, slot_answers}
@@ -56,9 +57,9 @@ module _ (t : List ℕ) (p : Sections) (a : table_refusal t ≡ 0) (placed : Pla
 
   -- ---- By a question
 
-  module _ (local : Bool) (itype bus irq : ℕ) (room : List ℕ) where
+  module _ (side : Asked) (itype bus irq : ℕ) (room : List ℕ) where
     abbrev q : Question
-    q = question (side_of local) itype bus irq
+    q = question (side_of side) itype bus irq
 
     line_wrong : wrong_line q t ≡ true → AnswersLine q t room (Refused query_number) room
     line_wrong w =
@@ -76,14 +77,14 @@ module _ (t : List ℕ) (p : Sections) (a : table_refusal t ≡ 0) (placed : Pla
       wrong_bus h = line_wrong (rw (listed bus e, h))
 
       pub right_line : found ≡ true → itype ≤ interrupt_type_most
-          → {n : ℕ} {r : Lent} {u : List ℕ} → Gives (pairs_of (side_of local) (wired itype bus irq false) t) room n u → r ≡ meant n
+          → {n : ℕ} {r : Lent} {u : List ℕ} → Gives (pairs_of (side_of side) (wired itype bus irq false) t) room n u → r ≡ meant n
           → AnswersLine q t room r u
       unfolding wrong_line
       right_line h i g m =
           let w : wrong_line q t ≡ false = rw (listed bus e, h, le-ltb interrupt_type_most itype i) in
           let z : refusal (line_own q t) ≡ 0 = refusal_go query_number [] w ∙ refusal_end in
           line_answers t room q
-          (own_told t (line_own q t) (line_some q t) (routes_of q t) room a z (rw (line_pairs (side_of local) itype bus irq t) g) m)
+          (own_told t (line_own q t) (line_some q t) (routes_of q t) room a z (rw (line_pairs (side_of side) itype bus irq t) g) m)
 
   -- ---- By a slot
 

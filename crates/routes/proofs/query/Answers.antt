@@ -14,7 +14,7 @@ behind_table-requires c =
 pub returns-in-Refused : goal.returns-in-Refused
 returns-in-Refused c =
     let a = c.args in
-    let q = question (side_of a.local) a.itype a.bus a.irq in
+    let q = question (side_of a.side) a.itype a.bus a.irq in
     let t = a.t.now in let both = line_answers t a.out.now q
     (examined_refused t (line_own q t) (line_some q t) (routes_of q t) a.out.now
     c.examine-found.ensures c.in-Refused.is) in record { value = both.0; out_after = both.1 }
