@@ -13,6 +13,7 @@ pub mod Rows
 pub mod Enabled
 pub mod Small
 pub mod Refusals
+pub mod Answers
 pub mod Circle
 pub mod Claims
 pub mod Lent
