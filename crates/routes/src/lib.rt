@@ -9,8 +9,7 @@
 // What is tested behind the table is each query's own. The IDs of the side's enabled APICs are gathered once, as a list for
 // those entries that name all and on a roll for those that name one: so the cost is that of the table and of the answer, and
 // not of their product. One pass over the interrupt entries writes the pairs; only where the room may be too small for them
-// does one before it count them. What a side answers goes up as a number, and the enum is made at the top: an enum that is
-// handed through a call is copied there.
+// does one before it count them.
 #![tactic(auto)]
 
 ghost use Rattle.std.specs.Prelude.{◌≡◌, false, ◌+◌, ◌*◌, ◌≤◌, length, leb};
@@ -26,9 +25,9 @@ ghost use Rattle.mps.specs.Slots.{slot, slot_routed, slot_routes_left};
 ghost use Rattle.roll.specs.Roll.{taken_bit, enrolled, OnRoll};
 ghost use Rattle.judge.specs.Placed.{Placed};
 ghost use Rattle.apics.specs.Enabled.{enabled_in};
-ghost use Rattle.routes.specs.Pairs.{side_of, asked_by, pairs_of, named, pairs_in, count_in, told, meant};
+ghost use Rattle.routes.specs.Pairs.{side_of, asked_by, pairs_of, named, pairs_in, count_in, paired};
 
-use mps::{Examined, Lent, Sections, layout};
+use mps::{Refusal, Sections, layout};
 
 // The side of a table that a query is about.
 #[derive(Clone, Copy)]
@@ -96,7 +95,7 @@ impl Targets<'_> {
 }
 
 // Interrupt type, bus and IRQ in; the pairs stand in the room from its first byte on.
-pub fn io(t: &[u8], itype: u8, bus: u8, irq: u8, out: &mut [u8]) -> Lent
+pub fn io(t: &[u8], itype: u8, bus: u8, irq: u8, out: &mut [u8]) -> Result<usize, Refusal>
     ensures value { result ≡ routed (question io_side itype bus irq) t.now out.old }
     ensures out_after { out.new ≡ routes_left (question io_side itype bus irq) t.now out.old }
 {
@@ -104,7 +103,7 @@ pub fn io(t: &[u8], itype: u8, bus: u8, irq: u8, out: &mut [u8]) -> Lent
 }
 
 // The same over local interrupts and processors.
-pub fn local(t: &[u8], itype: u8, bus: u8, irq: u8, out: &mut [u8]) -> Lent
+pub fn local(t: &[u8], itype: u8, bus: u8, irq: u8, out: &mut [u8]) -> Result<usize, Refusal>
     ensures value { result ≡ routed (question local_side itype bus irq) t.now out.old }
     ensures out_after { out.new ≡ routes_left (question local_side itype bus irq) t.now out.old }
 {
@@ -112,26 +111,27 @@ pub fn local(t: &[u8], itype: u8, bus: u8, irq: u8, out: &mut [u8]) -> Lent
 }
 
 // Bus, device and pin of a PCI slot in; the pairs stand in the room as those of `io` do.
-pub fn slot(t: &[u8], bus: u8, device: u8, pin: u8, out: &mut [u8]) -> Lent
+pub fn slot(t: &[u8], bus: u8, device: u8, pin: u8, out: &mut [u8]) -> Result<usize, Refusal>
     ensures value { result ≡ slot_routed (slot bus device pin) t.now out.old }
     ensures out_after { out.new ≡ slot_routes_left (slot bus device pin) t.now out.old }
 {
-    let found = judge::examine(t);
-    match found {
-        Examined::Refused(n) => Lent::Refused(n),
-        Examined::Accepted(p) => slot_behind_table(t, p, bus, device, pin, out),
-    }
+    let p = judge::examine(t)?;
+    slot_behind_table(t, p, bus, device, pin, out)
 }
 
-fn query(t: &[u8], side: Side, itype: u8, bus: u8, irq: u8, out: &mut [u8]) -> Lent
+fn query(
+    t: &[u8],
+    side: Side,
+    itype: u8,
+    bus: u8,
+    irq: u8,
+    out: &mut [u8],
+) -> Result<usize, Refusal>
     ensures value { result ≡ routed (question (side_of side) itype bus irq) t.now out.old }
     ensures out_after { out.new ≡ routes_left (question (side_of side) itype bus irq) t.now out.old }
 {
-    let found = judge::examine(t);
-    match found {
-        Examined::Refused(n) => Lent::Refused(n),
-        Examined::Accepted(p) => behind_table(t, p, side, itype, bus, irq, out),
-    }
+    let p = judge::examine(t)?;
+    behind_table(t, p, side, itype, bus, irq, out)
 }
 
 // 24 and on, with the places of the table.
@@ -143,82 +143,69 @@ fn behind_table(
     bus: u8,
     irq: u8,
     out: &mut [u8],
-) -> Lent
+) -> Result<usize, Refusal>
     requires { (table_refusal t.now ≡ 0) × (Placed t.now p) }
     ensures value { result ≡ routed (question (side_of side) itype bus irq) t.now out.old }
     ensures out_after { out.new ≡ routes_left (question (side_of side) itype bus irq) t.now out.old }
 {
-    let buses = p.buses;
-    let ioapics = p.ioapics;
     if layout::INTERRUPT_TYPE_MOST < itype {
-        return Lent::Refused(24);
+        return Err(Refusal::Query);
     }
-    if !buses::is_listed(&t[buses..ioapics], bus) {
-        return Lent::Refused(24);
+    if !buses::is_listed(&t[p.buses..p.ioapics], bus) {
+        return Err(Refusal::Query);
     }
     let irq = Irq::Whole(irq);
-    answered(of_side(t, p, side, &Wire { itype, bus, irq }, out))
+    of_side(t, p, side, &Wire { itype, bus, irq }, out)
 }
 
 // 24, 25 and on. A PCI bus is a listed one, so that only another is looked for among all. The IRQ of a slot is its device and
 // pin, packed, and bit 7 of an entry's is not compared.
-fn slot_behind_table(t: &[u8], p: Sections, bus: u8, device: u8, pin: u8, out: &mut [u8]) -> Lent
+fn slot_behind_table(
+    t: &[u8],
+    p: Sections,
+    bus: u8,
+    device: u8,
+    pin: u8,
+    out: &mut [u8],
+) -> Result<usize, Refusal>
     requires { (table_refusal t.now ≡ 0) × (Placed t.now p) }
     ensures value { result ≡ slot_routed (slot bus device pin) t.now out.old }
     ensures out_after { out.new ≡ slot_routes_left (slot bus device pin) t.now out.old }
 {
-    let buses = p.buses;
-    let ioapics = p.ioapics;
-    let listed = &t[buses..ioapics];
+    let listed = &t[p.buses..p.ioapics];
     if !buses::is_pci(listed, bus) {
         if buses::is_listed(listed, bus) {
-            return Lent::Refused(25);
+            return Err(Refusal::Slot);
         }
-        return Lent::Refused(24);
+        return Err(Refusal::Query);
     }
     if (layout::DEVICES <= device) | (layout::PINS <= pin) {
-        return Lent::Refused(25);
+        return Err(Refusal::Slot);
     }
     let irq = device * layout::PINS + pin;
     let irq = Irq::Slot(irq);
     let itype = layout::VECTORED;
-    answered(of_side(t, p, Side::Io, &Wire { itype, bus, irq }, out))
+    of_side(t, p, Side::Io, &Wire { itype, bus, irq }, out)
 }
 
-// What a side has told, as the answer.
-fn answered(told: usize) -> Lent
-    ensures { result ≡ meant told }
-{
-    if told == 0 {
-        return Lent::Refused(19);
-    }
-    Lent::Count(told - 1)
-}
-
-// Apart from the tests of 24 and 25, since what a side answers asks nothing of them. 0 where the pairs do not fit in the
-// room, else one more than there are.
-fn of_side(t: &[u8], p: Sections, side: Side, wire: &Wire, out: &mut [u8]) -> usize
+// Apart from the tests of 24 and 25, since what a side answers asks nothing of them.
+fn of_side(t: &[u8], p: Sections, side: Side, wire: &Wire, out: &mut [u8]) -> Result<usize, Refusal>
     requires { (table_refusal t.now ≡ 0) × (Placed t.now p) }
-    ensures value { result ≡ told (pairs_of (side_of side) (asked_by wire.now) t.now) out.old }
+    ensures value { result ≡ paired (pairs_of (side_of side) (asked_by wire.now) t.now) out.old }
     ensures out_after { out.new ≡ fit_left (pairs_of (side_of side) (asked_by wire.now) t.now) out.old }
 {
-    let buses = p.buses;
-    let ioapics = p.ioapics;
-    let interrupts = p.interrupts;
-    let locals = p.locals;
-    let end = p.mappings;
     match side {
         Side::Io => answer(
-            &t[ioapics..interrupts],
+            &t[p.ioapics..p.interrupts],
             layout::ENTRY_SIZE,
-            &t[interrupts..locals],
+            &t[p.interrupts..p.locals],
             wire,
             out,
         ),
         Side::Local => answer(
-            &t[layout::HEADER_SIZE..buses],
+            &t[layout::HEADER_SIZE..p.buses],
             layout::PROCESSOR_SIZE,
-            &t[locals..end],
+            &t[p.locals..p.mappings],
             wire,
             out,
         ),
@@ -227,9 +214,15 @@ fn of_side(t: &[u8], p: Sections, side: Side, wire: &Wire, out: &mut [u8]) -> us
 
 // The same of one side's parts: its APICs, entries of `size` bytes, and its interrupt entries. 256 places hold any IDs of
 // which no two are the same.
-fn answer(targets: &[u8], size: usize, entries: &[u8], wire: &Wire, out: &mut [u8]) -> usize
+fn answer(
+    targets: &[u8],
+    size: usize,
+    entries: &[u8],
+    wire: &Wire,
+    out: &mut [u8],
+) -> Result<usize, Refusal>
     requires { (4 ≤ size) × (twice (enabled_in size targets.now) ≡ false) × (length entries.now ≤ 65535) }
-    ensures value { result ≡ told (pairs_in (enabled_in size targets.now) (asked_by wire.now) (rows entry_size entries.now)) out.old }
+    ensures value { result ≡ paired (pairs_in (enabled_in size targets.now) (asked_by wire.now) (rows entry_size entries.now)) out.old }
     ensures out_after { out.new ≡ fit_left (pairs_in (enabled_in size targets.now) (asked_by wire.now) (rows entry_size entries.now)) out.old }
 {
     let mut roll = [0; 256];
@@ -240,9 +233,9 @@ fn answer(targets: &[u8], size: usize, entries: &[u8], wire: &Wire, out: &mut [u
         roll: &roll,
     };
     if !has_room(out.len(), entries, wire, targets) {
-        return 0;
+        return Err(Refusal::RoomTooSmall);
     }
-    write(out, entries, wire, targets) / layout::PAIR_SIZE + 1
+    Ok(write(out, entries, wire, targets) / layout::PAIR_SIZE)
 }
 
 // The enabled APICs, of entries of `size` bytes each: they are put on the roll, and their IDs stand in `ids` from its first

@@ -17,4 +17,4 @@ of_side-requires c = c.requires
 pub returns : goal.returns
 returns c =
     let a = c.args in let both = right_line a.t.now a.p c.requires.0 c.requires.1 a.side a.itype a.bus a.irq a.out.now
-    c.is_listed.ensures c.if-not-is_listed.false c.if-itype-gt-INTERRUPT_TYPE_MOST.false (c.of_side.ensures.value, c.of_side.ensures.out_after) c.answered.ensures in record { value = both.0; out_after = both.1 }
+    c.is_listed.ensures c.if-not-is_listed.false c.if-itype-gt-INTERRUPT_TYPE_MOST.false (c.of_side.ensures.value, c.of_side.ensures.out_after) in record { value = both.0; out_after = both.1 }
