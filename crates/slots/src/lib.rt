@@ -20,37 +20,30 @@ ghost use Rattle.judge.specs.Placed.{Placed};
 ghost use Rattle.sets.specs.Sets.{holds, members, set_bits};
 ghost use Rattle.slots.specs.Sets.{slots_most, slot_number, named_on, listed_on, slot_bytes, set_words, Held};
 
-use mps::{Examined, Lent, Sections, layout};
+use mps::{Refusal, Sections, layout};
 
 // How many slots a bus has, as a part of a slot's number.
 const BUS_SLOTS: usize = layout::BUS_SLOTS as usize;
 
 // The slots stand in the room from its first byte on.
-pub fn list(t: &[u8], out: &mut [u8]) -> Lent
+pub fn list(t: &[u8], out: &mut [u8]) -> Result<usize, Refusal>
     ensures value { result ≡ slots_listed t.now out.old }
     ensures out_after { out.new ≡ slots_left t.now out.old }
 {
-    let found = judge::examine(t);
-    match found {
-        Examined::Refused(n) => Lent::Refused(n),
-        Examined::Accepted(p) => of_table(t, p, out),
-    }
+    let p = judge::examine(t)?;
+    of_table(t, p, out)
 }
 
 // The same with the places of the table.
-fn of_table(t: &[u8], p: Sections, out: &mut [u8]) -> Lent
+fn of_table(t: &[u8], p: Sections, out: &mut [u8]) -> Result<usize, Refusal>
     requires { (table_refusal t.now ≡ 0) × (Placed t.now p) }
     ensures value { result ≡ slots_listed t.now out.old }
     ensures out_after { out.new ≡ slots_left t.now out.old }
 {
-    let buses = p.buses;
-    let ioapics = p.ioapics;
-    let interrupts = p.interrupts;
-    let locals = p.locals;
     let mut pci = [0; 256];
-    buses::pci(&mut pci, &t[buses..ioapics]);
-    let words = top(&t[buses..ioapics]) * 2;
-    let wired = &t[interrupts..locals];
+    buses::pci(&mut pci, &t[p.buses..p.ioapics]);
+    let words = top(&t[p.buses..p.ioapics]) * 2;
+    let wired = &t[p.interrupts..p.locals];
     if words <= 32 {
         let mut few = [0; 32];
         return of_set(&mut few[0..words], &pci, wired, out);
@@ -71,7 +64,7 @@ fn top(s: &[u8]) -> usize
 }
 
 // The slots that the entries name on the buses of the roll, by an empty set that has words for these.
-fn of_set(set: &mut [u64], pci: &[u8; 256], s: &[u8], out: &mut [u8]) -> Lent
+fn of_set(set: &mut [u64], pci: &[u8; 256], s: &[u8], out: &mut [u8]) -> Result<usize, Refusal>
     requires { (0 < length set.old) × (length set.old ≤ set_words) × ((n : ℕ) → holds set.old n ≡ false) × (Held pci.now (length set.old)) }
     ensures value { result ≡ fitted (listed_on pci.now (rows entry_size s.now))
         (length (listed_on pci.now (rows entry_size s.now)) / slot_size) out.old }
@@ -83,10 +76,9 @@ fn of_set(set: &mut [u64], pci: &[u8; 256], s: &[u8], out: &mut [u8]) -> Lent
         s.len() / layout::ENTRY_SIZE,
         out.len() / layout::SLOT_SIZE,
     ) {
-        return Lent::Refused(19);
+        return Err(Refusal::RoomTooSmall);
     }
-    let end = write(out, set);
-    Lent::Count(end / layout::SLOT_SIZE)
+    Ok(write(out, set) / layout::SLOT_SIZE)
 }
 
 // The number of the slot that a source names.
