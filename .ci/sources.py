@@ -87,14 +87,13 @@ def function_at(text, match, crate, modules, file):
     return Function(crate, modules, match[1], file, parameters, result, **clauses)
 
 
-def methods(text, file):
-    """Where the methods of each type stand: from, to, the type. What a trait asks for is no public function."""
+def methods(text):
+    """Where the methods of each type stand: from, to, the type; none where the block is of a type of any kind, or of a trait, whose
+    functions are public only by what they are named with."""
     blocks = []
     for block in re.finditer(r"\bimpl\b([^{]*)\{", text):
-        of = re.fullmatch(r"\s*(\w+)\s*", block[1])
-        if not of and " for " not in block[1]:
-            raise Unreadable(f"{file}: `{block[0]}`: no path is known here for a function inside it")
-        blocks.append((block.start(), closing(text, block.end() - 1), of and of[1]))
+        of = re.fullmatch(r"\s*(?:<\s*'[^>]*>)?\s*(\w+)\s*(?:<\s*'[^>]*>)?\s*", block[1])
+        blocks.append((block.start(), closing(text, block.end() - 1), block[0], of and of[1]))
     return blocks
 
 
@@ -102,10 +101,14 @@ def functions_of(text, crate, modules, file):
     text = without_comments(text)
     for wrong in re.findall(r"\bmod\s+\w+\s*\{", text):
         raise Unreadable(f"{file}: `{wrong}`: no path is known here for a function inside it")
-    blocks = methods(text, file)
+    blocks = methods(text)
     found = []
     for m in PUBLIC.finditer(text):
-        inside = [of for start, end, of in blocks if start < m.start() < end and of]
+        around = [(block, of) for start, end, block, of in blocks if start < m.start() < end]
+        for block, of in around:
+            if not of:
+                raise Unreadable(f"{file}: `{block}`: no path is known here for a function inside it")
+        inside = [of for _, of in around]
         function = function_at(text, m, crate, modules + inside, file)
         for at, (name, kind) in enumerate(function.parameters):
             if inside and name.lstrip("&").split()[-1] == "self" and not kind:
