@@ -1,10 +1,11 @@
 -- The ways out: what the code has found there, and the answer. Assumes nothing.
-use Prim.Native.Nat.{ℕ, zero, suc, ◌+◌, ◌≤◌, ◌<◌}
+use Prim.Native.Nat.{ℕ, ◌+◌, ◌≤◌, ◌<◌}
 use mathlib.Core.Path.{◌≡◌, refl, sym, ap, ◌∙◌}
 use mathlib.Core.Bool.{Bool, true, false, not, true≢false}
 use mathlib.Core.List.{List, [], ◌∷◌, ◌++◌}
 use native.Mathlib.Omega.{arith}
 use lib.Dec.{ltb}
+use Rattle.std.specs.Prelude.{Result, Ok, Err}
 use lib.ListN.{length, replicate}
 use lib.Seq.{sets}
 use borrow.Author.Tests.{lt-ltb, le-ltb, ne_eqb}
@@ -13,15 +14,15 @@ use Rattle.mps.specs.Refusals.{◌when◌, refusal, room_number}
 use Rattle.mps.specs.Layout.{Entry, of_type, header_size, processor_size, entry_size, processor_type, io_apic_type, id_of, enabled, everyone, base_entries}
 use Rattle.mps.specs.Rules.{enabled_of, enabled_ids}
 use Rattle.mps.specs.Judge.{table_refusal, examined}
-use Rattle.mps.specs.Answers.{renumbered_of}
+use Rattle.mps.specs.Reasons.{refusal_numbered}
 use Rattle.mps.specs.Rooms.{too_small}
 use Rattle.mps.specs.Renumber.{shares, kept_ids, held_ids, new_numbers, new_numbers_of, none_free, used_numbers, bits_set}
 use Rattle.mps.specs.Renumber.{renumber_rules, renumber_refusal, renumbered, renumber_left}
 use Rattle.mps.specs.declared.Sections.{Sections}
-use Rattle.mps.specs.declared.Examined.{Examined}
-use Rattle.mps.specs.declared.Examined.TheVariants.{Refused as Examined-as-Refused}
+use Rattle.mps.specs.declared.refusals.Refusal.{Refusal}
+use Rattle.mps.specs.declared.refusals.Refusal.TheVariants.{RoomTooSmall, NumbersUsedUp}
 use Rattle.mps.specs.declared.Renumbered.{Renumbered}
-use Rattle.mps.specs.declared.Renumbered.TheVariants.{Given, Refused}
+use Rattle.laws.proofs.Answers.{answered_err}
 use Rattle.laws.proofs.Lists.{length_each}
 use Rattle.laws.proofs.Tests.{whether}
 use Rattle.laws.proofs.Refusals.{first_some}
@@ -35,19 +36,15 @@ use Rattle.sets.specs.Sets.{holds, put_all, members}
 use Rattle.accepted.proofs.Obeyed.{obeyed}
 use Rattle.accepted.proofs.Numbering.{kept_ids_lem, processors_below, ioapics_below, held_below, none_free_lem, new_below, used_count}
 use Rattle.judge.specs.Placed.{Placed}
-use Rattle.judge.proofs.Laws.{refused_number, refused_some, placed_processors, placed_ioapics, behind_room}
+use Rattle.judge.proofs.Laws.{refused_table, placed_processors, placed_ioapics, behind_room}
 use Rattle.renumbering.specs.Giving.{numbers_in}
 use Rattle.renumbering.proofs.Laws.{Has, has_none, has_all, has_count, Both, both_has, numbers_are}
 
 -- ---- The number, and the answer
 
 -- What answers it, and what is left in the room.
-abbrev pub Answers : List ℕ → List ℕ → Renumbered → List ℕ → Type 0
+abbrev pub Answers : List ℕ → List ℕ → Result Renumbered Refusal → List ℕ → Type 0
 Answers t room r u = (r ≡ renumbered t room) × (u ≡ renumber_left t room)
-
-refused_of : (n count used : ℕ) → (n ≡ 0 → ⊥) → Refused n ≡ renumbered_of n count used
-refused_of zero count used z = absurd (z refl)
-refused_of (suc n) count used z = refl
 
 module _ (t room : List ℕ) where
   abbrev small : Bool
@@ -59,28 +56,28 @@ module _ (t room : List ℕ) where
   unfolding renumber_refusal renumber_rules
   is_number = behind_room t small (26 when none_free (base_entries t) ∷ [])
 
-  refused : {n : ℕ} → renumber_refusal t room ≡ n → (n ≡ 0 → ⊥) → Answers t room (Refused n) room
+  refused : {n : ℕ} → renumber_refusal t room ≡ n → (n ≡ 0 → ⊥) → {r : Refusal} → r ≡ refusal_numbered n → Answers t room (Err r) room
   unfolding renumbered renumber_left
-  refused {n} e z = (rw e (refused_of n _ _ z), rw e (sym (left_kept n _ room z)))
+  refused {n} e z q = (rw e (answered_err n _ z q), rw e (sym (left_kept n _ room z)))
 
-  pub examined_refused : {found : Examined} {n : ℕ} → found ≡ examined t → found ≡ Examined-as-Refused n → Answers t room (Refused n) room
-  examined_refused {found} {n} e k =
-      let z = refused_some t e k in
-      refused (is_number ∙ rw (← refused_number t e k) (first_some n _ z)) z
+  pub examined_refused : {found : Result Sections Refusal} {r : Refusal} → found ≡ examined t → found ≡ Err r → Answers t room (Err r) room
+  examined_refused e k =
+      let g = refused_table t e k in
+      refused (is_number ∙ first_some (table_refusal t) _ g.0) g.0 g.1
 
   module _ (a : table_refusal t ≡ 0) where
-    short : small ≡ true → Answers t room (Refused room_number) room
-    unfolding refusal
-    short s = refused (is_number ∙ rw (a, s)) (λ e. omega (arith, e))
+    short : small ≡ true → Answers t room (Err RoomTooSmall) room
+    unfolding refusal refusal_numbered
+    short s = refused {n = 19} (is_number ∙ rw (a, s)) (λ e. omega (arith, e)) refl
 
     module _ (s : small ≡ false) where
-      none_left : none_free (base_entries t) ≡ true → Answers t room (Refused 26) room
-      unfolding refusal
-      none_left e = refused (is_number ∙ rw (a, s, e)) (λ q. omega (arith, q))
+      none_left : none_free (base_entries t) ≡ true → Answers t room (Err NumbersUsedUp) room
+      unfolding refusal refusal_numbered
+      none_left e = refused {n = 26} (is_number ∙ rw (a, s, e)) (λ q. omega (arith, q)) refl
 
       given :
           none_free (base_entries t) ≡ false → {n k : ℕ} {u : List ℕ} → n ≡ length (new_numbers_of t) → k ≡ bits_set (used_numbers (base_entries t))
-          → length (new_numbers_of t) ≤ length room → u ≡ sets room 0 (new_numbers_of t) → Answers t room (Given n k) u
+          → length (new_numbers_of t) ≤ length room → u ≡ sets room 0 (new_numbers_of t) → Answers t room (Ok (record { count = n; used = k })) u
       unfolding refusal renumbered renumber_left
       given e en ek h g =
           let z : renumber_refusal t room ≡ 0 = is_number ∙ rw (a, s, e) in
@@ -178,7 +175,7 @@ module _ (t : List ℕ) (p : Sections) (a : table_refusal t ≡ 0) (placed : Pla
     none_255 : among everyone (held_ids base) ≡ false
     none_255 = whether (among everyone (held_ids base)) (λ e. absurd (omega (arith, held_below t a placed.bytes everyone e))) (λ e. e)
 
-    pub room_short : length room < m → Answers t room (Refused room_number) room
+    pub room_short : length room < m → Answers t room (Err RoomTooSmall) room
     unfolding too_small
     room_short h = short t room a (rw count_is (lt-ltb (length room) m h))
 
@@ -187,7 +184,7 @@ module _ (t : List ℕ) (p : Sections) (a : table_refusal t ≡ 0) (placed : Pla
       unfolding too_small
       fits = rw count_is (le-ltb (length room) m h)
 
-      pub all_used : everyone < n + m → Answers t room (Refused 26) room
+      pub all_used : everyone < n + m → Answers t room (Err NumbersUsedUp) room
       all_used k = none_left t room a fits (none_by ∙ lt-ltb everyone (n + m) k)
 
       module _ (k : n + m ≤ everyone) where
@@ -206,7 +203,7 @@ module _ (t : List ℕ) (p : Sections) (a : table_refusal t ≡ 0) (placed : Pla
         give_room = (rw (← em) h, rw numbers_is (new_below t a some placed.bytes))
 
         -- Every number that is used then is a processor's or given.
-        pub all_given : {u : List ℕ} → u ≡ sets room 0 (numbers_in cpus own (enabled_in entry_size apic_rows)) → Answers t room (Given m (n + m)) u
+        pub all_given : {u : List ℕ} → u ≡ sets room 0 (numbers_in cpus own (enabled_in entry_size apic_rows)) → Answers t room (Ok (record { count = m; used = n + m })) u
         all_given e =
             given t room a fits some (sym count_is) (rw (enabled_is, apics_is) (sym (used_count t a some placed.bytes)))
             (rw count_is h) (rw numbers_is at e)

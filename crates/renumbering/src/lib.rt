@@ -22,55 +22,49 @@ ghost use Rattle.sets.specs.Sets.{put_all};
 ghost use Rattle.judge.specs.Placed.{Placed};
 ghost use Rattle.renumbering.specs.Giving.{number_in, own_with, numbers_in};
 
-use mps::{Examined, Renumbered, Sections, layout};
+use mps::{Refusal, Renumbered, Sections, layout};
 
 // How many numbers there are to have: 0 to 254.
 const NUMBERS: usize = layout::EVERYONE as usize;
 
 // A byte for each enabled I/O APIC stands in the room from its first byte on, in table order.
-pub fn renumber(t: &[u8], out: &mut [u8]) -> Renumbered
+pub fn renumber(t: &[u8], out: &mut [u8]) -> Result<Renumbered, Refusal>
     ensures value { result ≡ renumbered t.now out.old }
     ensures out_after { out.new ≡ renumber_left t.now out.old }
 {
-    let found = judge::examine(t);
-    match found {
-        Examined::Refused(n) => Renumbered::Refused(n),
-        Examined::Accepted(p) => of_table(t, p, out),
-    }
+    let p = judge::examine(t)?;
+    of_table(t, p, out)
 }
 
 // The same with the places of the table. No two enabled APICs of one kind have the same ID, so the numbers that are used at
 // the end are as many as the enabled ones: 26 where these are more than there are numbers. Document 01 has the ones of a set
 // counted; the processors' are counted before the I/O APICs are gone over, since the pass over these does not wait for it.
-fn of_table(t: &[u8], p: Sections, out: &mut [u8]) -> Renumbered
+fn of_table(t: &[u8], p: Sections, out: &mut [u8]) -> Result<Renumbered, Refusal>
     requires { (table_refusal t.now ≡ 0) × (Placed t.now p) }
     ensures value { result ≡ renumbered t.now out.old }
     ensures out_after { out.new ≡ renumber_left t.now out.old }
 {
-    let buses = p.buses;
-    let ioapics = p.ioapics;
-    let interrupts = p.interrupts;
     let mut processors: [u64; 4] = [0; 4];
     hold(
         &mut processors,
-        &t[layout::HEADER_SIZE..buses],
+        &t[layout::HEADER_SIZE..p.buses],
         layout::PROCESSOR_SIZE,
     );
     let held = sets::count(&processors);
-    let apics = &t[ioapics..interrupts];
+    let apics = &t[p.ioapics..p.interrupts];
     let mut own: [u64; 4] = [0; 4];
     let count = hold(&mut own, apics, layout::ENTRY_SIZE);
     if out.len() < count {
-        return Renumbered::Refused(19);
+        return Err(Refusal::RoomTooSmall);
     }
     if NUMBERS < held + count {
-        return Renumbered::Refused(26);
+        return Err(Refusal::NumbersUsedUp);
     }
     give(out, &mut own, &processors, apics);
-    Renumbered::Given {
+    Ok(Renumbered {
         count,
         used: held + count,
-    }
+    })
 }
 
 // Puts in the IDs of the enabled APICs, of entries of `size` bytes each. Answers how many they are. IDs mostly rise: the word
