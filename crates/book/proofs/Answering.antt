@@ -14,7 +14,7 @@ use Rattle.mps.specs.Numbers.{le}
 use Rattle.mps.specs.Refusals.{refusal, room_number}
 use Rattle.mps.specs.Answers.{booked_numbers}
 use Rattle.mps.specs.Rooms.{too_small, fitted, fit_left}
-use Rattle.mps.specs.Layout.{book_most, book_head, book_rows, book_row, body_start, body_size}
+use Rattle.mps.specs.Layout.{book_most, book_head, book_rows, book_row}
 use Rattle.mps.specs.Book.{BookLayout, layout1, latest, editions_run, bodies_at, book_of, rows_of, good_book, bad_book}
 use Rattle.mps.specs.History.{book_rules, book_refusal, booked, latest_told, edition_rules, edition_refusal, body_told}
 use Rattle.mps.specs.History.{history_width, history_of, history_refusal, history_told, history_left}
@@ -28,7 +28,7 @@ use Rattle.laws.proofs.Tests.{whether}
 use Rattle.laws.proofs.Refusals.{number}
 use Rattle.laws.proofs.Lent.{lent_early, left_kept, lent_refused, fit_put, fit_short, fit_late}
 use Rattle.laws.proofs.Small.{Bytes}
-use Rattle.pages.specs.Pages.{end_of, rows_most, found_in, Measured, Readable}
+use Rattle.pages.specs.Pages.{end_of, rows_most, Measured, Readable}
 use Rattle.pages.proofs.Bytes.{readable1, length_rows_from, length_book, length_rows}
 use Rattle.pages.proofs.Good.{book_most_lem, ends_good, bad_end, bad_editions, ends_rows, good_placed}
 use Rattle.pages.proofs.Editions.{found_none, found_some, found_good}

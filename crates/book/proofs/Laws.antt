@@ -10,7 +10,7 @@ use lib.ListN.{length}
 use lib.Seq.{sets}
 use borrow.Author.Tests.{ltb-true, ltb-false, lt-ltb, le-ltb, le-leb, lt-leb, eq-eqb, ne_eqb}
 use Rattle.mps.specs.Words.{byte, part}
-use Rattle.mps.specs.Numbers.{le, bytes}
+use Rattle.mps.specs.Numbers.{bytes}
 use Rattle.mps.specs.Layout.{book_most, book_head, book_rows, book_row, body_start, body_size, extended_end}
 use Rattle.mps.specs.Sections.{sections}
 use Rattle.mps.specs.Judge.{examined}

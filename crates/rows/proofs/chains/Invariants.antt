@@ -1,5 +1,3 @@
-use Prim.Native.Nat.{◌≤◌}
-use Rattle.pages.specs.Pages.{rows_most}
 use Rattle.rows.proofs.Laws.{Runs, Chains}
 use Rattle.rows.proofs.chains.Given as goal
 
