@@ -43,11 +43,11 @@ straight true a e = absurd (true≢false (ap is_some e))
 straight false a e = (refl, ap (λ o. unwrap_or o a) e)
 
 -- An option taken as a refusal, and back.
-asked_some : {A : Type 0} (o : Option A) (e : Refusal) {a : A} → Ok a ≡ ok_or o e → o ≡ Some a
+pub asked_some : {A : Type 0} (o : Option A) (e : Refusal) {a : A} → Ok a ≡ ok_or o e → o ≡ Some a
 asked_some None e q = absurd (false≢true (sym (ap is_ok q)))
 asked_some (Some b) e {a} q = ap Some (ap (λ r. result_unwrap_or r b) (sym q))
 
-asked_none : {A : Type 0} (o : Option A) (e : Refusal) {r : Refusal} → Err r ≡ ok_or o e → (o ≡ None) × (r ≡ e)
+pub asked_none : {A : Type 0} (o : Option A) (e : Refusal) {r : Refusal} → Err r ≡ ok_or o e → (o ≡ None) × (r ≡ e)
 asked_none None e q = (refl, ap (λ x. unwrap_or (result_err x) e) q)
 asked_none (Some b) e q = absurd (false≢true (ap is_ok q))
 

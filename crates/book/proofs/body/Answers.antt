@@ -1,9 +1,17 @@
--- A bad book's number is the call's; else the book is good.
-use Rattle.book.proofs.Answering.{booked_measured, body_refused}
+-- A bad book's refusal is the call's; else the row of the edition tells, where there is one.
+use Rattle.std.proofs.lemmas.Result.{err_from_is_err_and}
+use Rattle.book.proofs.Answering.{body_refused, body_none, body_stands}
 use Rattle.book.proofs.body.Goals as goal
 
-pub body_in-requires : goal.body_in-requires
-body_in-requires c = (booked_measured _ _ c.measure-found.ensures c.in-Book.is).good
+pub returns-in_err-measure : goal.returns-in_err-measure
+returns-in_err-measure c =
+    let p = err_from_is_err_and c.from_residual.result c.from_residual.ensures.1 in
+    rw (p.1, p.2) (body_refused _ _ _ c.measure.ensures c.in_err-measure.was)
 
-pub returns-in-Refused : goal.returns-in-Refused
-returns-in-Refused c = body_refused _ _ _ _ c.measure-found.ensures c.in-Refused.is
+pub returns-in_err-row : goal.returns-in_err-row
+returns-in_err-row c =
+    let p = err_from_is_err_and c.from_residual-in_err-row.result c.from_residual-in_err-row.ensures.1 in
+    rw (p.1, p.2) (body_none _ _ _ c.measure.ensures c.in_ok-measure.was c.find.ensures c.ok_or.ensures.value c.in_err-row.was)
+
+pub returns : goal.returns
+returns c = body_stands _ _ _ c.measure.ensures c.in_ok-measure.was c.find.ensures c.ok_or.ensures.value c.in_ok-row.was
