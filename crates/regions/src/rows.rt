@@ -8,7 +8,7 @@ use mps::{Region, layout};
 use std::marker::Model;
 
 // The rows that are left, and where the body of the first of them is. A proof sees the regions that they describe.
-#[derive(Clone, Drop)]
+#[derive(Drop)]
 pub struct Rows<'a> {
     rows: &'a [u8],
     offset: usize,
@@ -54,5 +54,15 @@ pub fn of_dump<'a>(d: &'a [u8]) -> Rows<'a>
     Rows {
         rows: &d[1..offset],
         offset,
+    }
+}
+
+// The rows that are left once more, for a second walk along them. A derived `Clone` would not say which rows it gives.
+pub fn again<'a>(r: &Rows<'a>) -> Rows<'a>
+    ensures { result ≡ r.now }
+{
+    Rows {
+        rows: r.rows,
+        offset: r.offset,
     }
 }
