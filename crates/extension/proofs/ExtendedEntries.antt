@@ -17,7 +17,7 @@ use Rattle.mps.specs.Table.{extended_fault, extended_from}
 use Rattle.laws.proofs.Tests.{and_parts, or_parts, either, whether}
 use Rattle.numbers.proofs.Laws.{le_row}
 use Rattle.laws.proofs.Cut.{cut_next, cut_done}
-use Rattle.extension.specs.declared.ExtendedSections.TheVariants.{Ascending, Faulty}
+use Rattle.std.specs.Prelude.{Some, None}
 use Rattle.runs.specs.Runs.{size_of, Ran}
 use Rattle.extension.specs.Extended.{extended_entries_in, extended_sections, extended_own}
 use Rattle.runs.proofs.Pieces.{size_two, first_there, every_cut, cut_head}
@@ -321,11 +321,11 @@ module _
         ∙ sym (extended_walk 131 (extended_entries_in (drop others s))))
 
     module _ (faulty : Bool) (e : faulty ≡ extended_from 131 (extended_entries_in (drop others s))) where
-      pub extended_faulty : faulty ≡ true → Faulty ≡ extended_sections s
+      pub extended_faulty : faulty ≡ true → None ≡ extended_sections s
       unfolding extended_sections
       extended_faulty h = rw (walk_others, ← e, h)
 
-      pub extended_sound : faulty ≡ false → Ascending links modifiers others ≡ extended_sections s
+      pub extended_sound : faulty ≡ false → Some (record { links = links; modifiers = modifiers; others = others }) ≡ extended_sections s
       unfolding extended_sections
       extended_sound h =
           let w : walk extended_own 0 128 (extended_entries_in s) ≡ 0 = extended_accepted s (walk_others ∙ sym e ∙ h) in

@@ -18,13 +18,10 @@ use mps::layout;
 
 // Where the entries of each type begin, from the first extended byte; mappings begin there.
 #[derive(Clone, Copy)]
-pub enum ExtendedSections {
-    Ascending {
-        links: usize,
-        modifiers: usize,
-        others: usize,
-    },
-    Faulty,
+pub struct ExtendedSections {
+    pub links: usize,
+    pub modifiers: usize,
+    pub others: usize,
 }
 
 // A byte as a length. A cast in place would need a proof at each that the byte fits.
@@ -79,19 +76,19 @@ fn others(s: &[u8], at: usize) -> bool
     place < s.len()
 }
 
-// `s` are the extended bytes.
-pub fn extended(s: &[u8]) -> ExtendedSections
+// `s` are the extended bytes. None where an entry is faulty: one refusal stands for all that can be wrong with them.
+pub fn extended(s: &[u8]) -> Option<ExtendedSections>
     ensures { result ≡ extended_sections s.now }
 {
     let links = run_of(s, 0, layout::MAPPING_TYPE);
     let modifiers = run_of(s, links, layout::HIERARCHY_TYPE);
     let end = run_of(s, modifiers, layout::MODIFIER_TYPE);
     if others(s, end) {
-        return ExtendedSections::Faulty;
+        return None;
     }
-    ExtendedSections::Ascending {
-        links: links,
-        modifiers: modifiers,
+    Some(ExtendedSections {
+        links,
+        modifiers,
         others: end,
-    }
+    })
 }

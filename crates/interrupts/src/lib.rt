@@ -29,16 +29,11 @@ fn wrong_one(e: &[u8], roll: &[u8; 256], k: u8, most: u8) -> bool
 }
 
 // Whether some entry is wrong, of entries of 8 bytes each, one behind the other.
-#[tactic(auto, using(laws::proofs::Rows::any_end, laws::proofs::Rows::any_stop, laws::proofs::Rows::any_next))]
 fn wrong(s: &[u8], roll: &[u8; 256], k: u8, most: u8) -> bool
     ensures { result ≡ any (wrong_interrupt_in roll.now (k % 8) most) (rows entry_size s.now) }
 {
-    for e in s.chunks_exact(layout::ENTRY_SIZE) {
-        if wrong_one(e, roll, k, most) {
-            return true;
-        }
-    }
-    false
+    s.chunks_exact(layout::ENTRY_SIZE)
+        .any(|e| wrong_one(e, roll, k, most))
 }
 
 // I/O interrupts: they end at I/O APICs, at any input.

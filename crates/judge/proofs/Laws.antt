@@ -1,14 +1,15 @@
 -- What a caller may use of the judge's answers. Assumes nothing.
-use Prim.Native.Nat.{ℕ, zero, suc, ◌-◌, ◌/◌}
+use Prim.Native.Nat.{ℕ, suc, ◌-◌, ◌/◌}
 use mathlib.Core.Path.{◌≡◌, refl, sym, ap, ◌∙◌}
-use mathlib.Core.Bool.{Bool, true, false, cond, true≢false}
+use mathlib.Core.Bool.{Bool, true, false, cond}
 use mathlib.Core.List.{List, [], ◌∷◌, ◌++◌, append_assoc}
 use native.Mathlib.Omega.{arith}
 use lib.ListN.{length}
-use Rattle.mps.specs.Words.{head, among, keep, each, first, part}
+use Rattle.mps.specs.Words.{among, keep, each, first, part}
 use Rattle.mps.specs.Refusals.{Rule, ◌when◌, refusal, room_number}
 use Rattle.mps.specs.Rooms.{room_rules}
-use Rattle.mps.specs.Answers.{examined_of, examined_numbers}
+use Rattle.std.specs.Prelude.{Result, Ok, Err}
+use Rattle.mps.specs.Reasons.{refusal_numbered}
 use Rattle.mps.specs.Layout.{header_size, processor_size, entry_size, processor_type, bus_type, io_apic_type, id_of, base_entries, extended_entries}
 use Rattle.mps.specs.Table.{wrong_extended_part, walk_from, wrong_extended, extended_from}
 use Rattle.mps.specs.Rules.{is_listed, ids_of, enabled_of, enabled_ids}
@@ -16,9 +17,8 @@ use Rattle.mps.specs.Sections.{rows, sections}
 use Rattle.mps.specs.Judge.{table_rules, table_refusal, judged, examined}
 use Rattle.mps.specs.Slots.{is_pci, pci_buses, on_pci}
 use Rattle.mps.specs.declared.Sections.{Sections}
-use Rattle.mps.specs.declared.Judged.TheVariants.{Accepted, Refused as Judged-as-Refused}
-use Rattle.mps.specs.declared.Examined.{Examined}
-use Rattle.mps.specs.declared.Examined.TheVariants.{Accepted as Examined-as-Accepted, Refused}
+use Rattle.mps.specs.declared.refusals.Refusal.{Refusal}
+use Rattle.laws.proofs.Answers.{answered_ok, given_ok, given_err, refused_on}
 use Rattle.laws.proofs.Tests.{or_parts}
 use Rattle.laws.proofs.Refusals.{number, first_none, refusal_append}
 use Rattle.laws.proofs.Lists.{length_each}
@@ -34,63 +34,41 @@ use Rattle.judge.specs.Stages.{walk_number, from14}
 use Rattle.judge.proofs.Stages.{stages, extended_stages}
 use Rattle.judge.proofs.Accepted.{placed}
 
--- ---- Enums taken apart
+-- ---- The judge's answer, from the examiner's
 
-is_accepted : Examined → Bool
-is_accepted (Examined-as-Accepted p) = true
-is_accepted (Refused n) = false
+module _ (t : List ℕ) {x : Result Sections Refusal} (e : x ≡ examined t) where
+  pub judged_ok : {p : Sections} → x ≡ Ok p → Ok tt ≡ judged t
+  unfolding judged examined
+  judged_ok q = answered_ok (table_refusal t) tt (given_ok (table_refusal t) (sections t) (sym q ∙ e)).0
 
-number_of : Examined → ℕ
-number_of r = head 0 (examined_numbers r)
+  pub judged_err : {r : Refusal} → x ≡ Err r → Err r ≡ judged t
+  unfolding judged examined
+  judged_err q = refused_on (table_refusal t) (table_refusal t) (sections t) tt (sym q ∙ e) (λ z. refl)
 
-places_of : Sections → Examined → Sections
-places_of d (Examined-as-Accepted p) = p
-places_of d (Refused n) = d
+  -- ---- What the examiner's answer says of the table
 
-number_of_lem : (n : ℕ) (q : Sections) → number_of (examined_of n q) ≡ n
-unfolding number_of
-number_of_lem zero q = refl
-number_of_lem (suc n) q = refl
-
-accepted_none : (n : ℕ) {p : Sections} (q : Sections) → Examined-as-Accepted p ≡ examined_of n q → (n ≡ 0) × (p ≡ q)
-unfolding is_accepted places_of
-accepted_none zero q e = (refl, ap (places_of q) e)
-accepted_none (suc n) q e = absurd (true≢false (ap is_accepted e))
-
--- ---- The judge's answer
-
-pub is_accepted_lem : (t : List ℕ) {n : ℕ} → n ≡ table_refusal t → n ≡ 0 → Accepted ≡ judged t
-unfolding judged
-is_accepted_lem t e z = rw (← e, z)
-
-pub is_refused_lem : (t : List ℕ) (n : ℕ) → n ≡ table_refusal t → (n ≡ 0 → ⊥) → Judged-as-Refused n ≡ judged t
-unfolding judged
-is_refused_lem t zero e z = absurd (z refl)
-is_refused_lem t (suc n) e z = rw (← e)
-
--- ---- The examiner's
-
-module _ (t : List ℕ) {r : Examined} (e : r ≡ examined t) where
-  number_is : number_of r ≡ table_refusal t
+  pub accepted_number : {p : Sections} → x ≡ Ok p → 0 ≡ table_refusal t
   unfolding examined
-  number_is = ap number_of e ∙ number_of_lem (table_refusal t) (sections t)
+  accepted_number q = sym (given_ok (table_refusal t) (sections t) (sym q ∙ e)).0
 
-  pub accepted_number : {p : Sections} → r ≡ Examined-as-Accepted p → 0 ≡ table_refusal t
-  unfolding number_of
-  accepted_number q = ap number_of (sym q) ∙ number_is
-
-  pub refused_number : {n : ℕ} → r ≡ Refused n → n ≡ table_refusal t
-  unfolding number_of
-  refused_number q = ap number_of (sym q) ∙ number_is
-
-  -- and which is not 0.
-  pub refused_some : {n : ℕ} → r ≡ Refused n → n ≡ 0 → ⊥
-  unfolding examined is_accepted
-  refused_some q z = true≢false (ap is_accepted (rw (sym (refused_number q) ∙ z) at (sym e ∙ q)))
-
-  pub accepted_sections : {p : Sections} → r ≡ Examined-as-Accepted p → p ≡ sections t
+  -- A refusal is the table's, whose number is not 0.
+  pub refused_table : {r : Refusal} → x ≡ Err r → (table_refusal t ≡ 0 → ⊥) × (r ≡ refusal_numbered (table_refusal t))
   unfolding examined
-  accepted_sections q = (accepted_none (table_refusal t) (sections t) (sym q ∙ e)).1
+  refused_table q = given_err (table_refusal t) (sections t) (sym q ∙ e)
+
+  pub accepted_sections : {p : Sections} → x ≡ Ok p → p ≡ sections t
+  unfolding examined
+  accepted_sections q = (given_ok (table_refusal t) (sections t) (sym q ∙ e)).1
+
+-- Of the judge's own answer.
+module _ (t : List ℕ) {x : Result (Unit {0}) Refusal} (e : x ≡ judged t) where
+  pub judged_accepted : {u : Unit {0}} → x ≡ Ok u → table_refusal t ≡ 0
+  unfolding judged
+  judged_accepted q = (given_ok (table_refusal t) tt (sym q ∙ e)).0
+
+  pub judged_refused : {r : Refusal} → x ≡ Err r → (table_refusal t ≡ 0 → ⊥) × (r ≡ refusal_numbered (table_refusal t))
+  unfolding judged
+  judged_refused q = given_err (table_refusal t) tt (sym q ∙ e)
 
 -- ---- What an accepted table is like
 
@@ -110,11 +88,11 @@ accepted_placed t bytes e =
     (first_none (walk_from 0 (base_entries t)) _ walk.0).0 parts.1
 
 -- and so are those that the examiner answers.
-pub accepted_places : (t : List ℕ) {r : Examined} {p : Sections} → Bytes t → r ≡ examined t → r ≡ Examined-as-Accepted p → Placed t p
+pub accepted_places : (t : List ℕ) {r : Result Sections Refusal} {p : Sections} → Bytes t → r ≡ examined t → r ≡ Ok p → Placed t p
 accepted_places t bytes e q = rw (accepted_sections t e q) (accepted_placed t bytes (sym (accepted_number t e q)))
 
 -- Both of an answer.
-pub examined_accepted : (t : List ℕ) → Bytes t → {r : Examined} {p : Sections} → r ≡ examined t → r ≡ Examined-as-Accepted p
+pub examined_accepted : (t : List ℕ) → Bytes t → {r : Result Sections Refusal} {p : Sections} → r ≡ examined t → r ≡ Ok p
     → (table_refusal t ≡ 0) × Placed t p
 examined_accepted t bytes e q = (sym (accepted_number t e q), accepted_places t bytes e q)
 

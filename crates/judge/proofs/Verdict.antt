@@ -1,120 +1,98 @@
 -- From the stages to the answer: what each function of the judge has found before the rules, and what `examined` is then.
 -- Assumes nothing.
-use Prim.Native.Nat.{ℕ, zero, suc, ◌+◌, ◌-◌, ◌≤◌}
+use Prim.Native.Nat.{ℕ, ◌+◌, ◌-◌, ◌≤◌}
 use mathlib.Core.Path.{◌≡◌, refl, sym, ap, ◌∙◌}
-use mathlib.Core.Bool.{Bool, true, false, cond, true≢false, or-true}
+use mathlib.Core.Bool.{Bool, true, false, cond, true≢false, false≢true, or-true}
 use mathlib.Core.List.{List}
 use native.Mathlib.Omega.{arith}
 use lib.ListN.{take, drop}
+use Rattle.std.specs.Prelude.{Result, Ok, Err, Option, Some, None}
+use Rattle.std.specs.Option.{is_some, unwrap_or, ok_or}
+use Rattle.std.specs.Result.{is_ok, result_err, result_unwrap_or}
 use Rattle.mps.specs.Refusals.{refusal, extended_number}
-use Rattle.mps.specs.Layout.{Entry, header_size, processor_type, mapping_type, base_length, extended_length, entry_count, base_entries, extended_entries}
+use Rattle.mps.specs.Reasons.{refusal_numbered}
+use Rattle.mps.specs.Answers.{answered}
+use Rattle.mps.specs.Layout.{Entry, header_size, base_length, extended_length, entry_count, base_entries, extended_entries}
 use Rattle.mps.specs.Table.{wrong_extended_part, walk_from, extended_from, wrong_extended}
-use Rattle.mps.specs.Sections.{span, base_after, extended_after, sections}
+use Rattle.mps.specs.Sections.{base_after, extended_after, sections}
 use Rattle.mps.specs.Judge.{table_refusal, examined}
 use Rattle.mps.specs.declared.Sections.{Sections}
-use Rattle.mps.specs.declared.Examined.TheVariants.{Accepted as Examined-as-Accepted, Refused}
+use Rattle.mps.specs.declared.refusals.Refusal.{Refusal}
+use Rattle.mps.specs.declared.refusals.Refusal.TheVariants.{ExtendedPart}
 use Rattle.laws.proofs.Refusals.{first_some, first_none}
+use Rattle.laws.proofs.Answers.{answered_err, given_ok, given_err}
 use Rattle.laws.proofs.Small.{Bytes}
 use Rattle.header.specs.Header.{header_refusal}
 use Rattle.header.proofs.Laws.{header_passed, extended_fits}
 use Rattle.sections.specs.declared.BaseSections.{BaseSections}
-use Rattle.sections.specs.declared.BaseSections.TheVariants.{Ascending as Base-as-Ascending, Faulty as Base-as-Faulty}
 use Rattle.extension.specs.declared.ExtendedSections.{ExtendedSections}
-use Rattle.extension.specs.declared.ExtendedSections.TheVariants.{Ascending as Extended-as-Ascending, Faulty as Extended-as-Faulty}
-use Rattle.sections.specs.Base.{base_fault, base_answer, base_sections}
-use Rattle.extension.specs.Extended.{extended_sections}
+use Rattle.sections.specs.Base.{base_fault, base_places, base_sections}
+use Rattle.extension.specs.Extended.{extended_places, extended_sections}
 use Rattle.judge.specs.Stages.{walk_number, from14, Walked, Ready}
 use Rattle.judge.proofs.Stages.{stages, extended_stages}
 use Rattle.judge.proofs.Accepted.{after_ascends, after_all, placed}
 
--- ---- The answers of the walks, taken apart
+-- ---- The answer of the walk over the extended entries, taken apart
 
-is_faulty : BaseSections → Bool
-is_faulty (Base-as-Ascending a b c d) = false
-is_faulty (Base-as-Faulty n) = true
+crooked : {A : Type 0} (x : Bool) (a : A) → None ≡ cond x None (Some a) → x ≡ true
+crooked true a e = refl
+crooked false a e = absurd (false≢true (ap is_some e))
 
-fault_of : BaseSections → ℕ
-fault_of (Base-as-Ascending a b c d) = 0
-fault_of (Base-as-Faulty n) = n
+straight : {A : Type 0} (x : Bool) (a : A) {b : A} → Some b ≡ cond x None (Some a) → (x ≡ false) × (b ≡ a)
+straight true a e = absurd (true≢false (ap is_some e))
+straight false a e = (refl, ap (λ o. unwrap_or o a) e)
 
-base_place : ℕ → BaseSections → ℕ
-base_place k (Base-as-Faulty n) = 0
-base_place zero (Base-as-Ascending a b c d) = a
-base_place (suc zero) (Base-as-Ascending a b c d) = b
-base_place (suc (suc zero)) (Base-as-Ascending a b c d) = c
-base_place (suc (suc (suc k))) (Base-as-Ascending a b c d) = d
+-- An option taken as a refusal, and back.
+asked_some : {A : Type 0} (o : Option A) (e : Refusal) {a : A} → Ok a ≡ ok_or o e → o ≡ Some a
+asked_some None e q = absurd (false≢true (sym (ap is_ok q)))
+asked_some (Some b) e {a} q = ap Some (ap (λ r. result_unwrap_or r b) (sym q))
 
-base_faulty : {n : ℕ} (f : ℕ) (es : List Entry) → Base-as-Faulty n ≡ base_answer f es → (f ≡ n) × (n ≡ 0 → ⊥)
-unfolding is_faulty fault_of
-base_faulty zero es e = absurd (true≢false (ap is_faulty e))
-base_faulty (suc f) es e = (sym (ap fault_of e), λ z. omega (arith, z, ap fault_of e))
-
-base_ascending :
-    {a b c d : ℕ} (f : ℕ) (es : List Entry) → Base-as-Ascending a b c d ≡ base_answer f es
-    → (f ≡ 0) × (a ≡ span processor_type 1 es) × (b ≡ span processor_type 2 es) × (c ≡ span processor_type 3 es) × (d ≡ span processor_type 4 es)
-unfolding is_faulty base_place
-base_ascending zero es e = (refl, ap (base_place 0) e, ap (base_place 1) e, ap (base_place 2) e, ap (base_place 3) e)
-base_ascending (suc f) es e = absurd (true≢false (sym (ap is_faulty e)))
-
-is_crooked : ExtendedSections → Bool
-is_crooked (Extended-as-Ascending a b c) = false
-is_crooked Extended-as-Faulty = true
-
-extended_place : ℕ → ExtendedSections → ℕ
-extended_place k Extended-as-Faulty = 0
-extended_place zero (Extended-as-Ascending a b c) = a
-extended_place (suc zero) (Extended-as-Ascending a b c) = b
-extended_place (suc (suc k)) (Extended-as-Ascending a b c) = c
-
-crooked : (x : Bool) (a b c : ℕ) → Extended-as-Faulty ≡ cond x Extended-as-Faulty (Extended-as-Ascending a b c) → x ≡ true
-unfolding is_crooked
-crooked true a b c e = refl
-crooked false a b c e = absurd (true≢false (ap is_crooked e))
-
-straight :
-    (x : Bool) (a b c : ℕ) {u v w : ℕ} → Extended-as-Ascending u v w ≡ cond x Extended-as-Faulty (Extended-as-Ascending a b c)
-    → (x ≡ false) × (u ≡ a) × (v ≡ b) × (w ≡ c)
-unfolding is_crooked extended_place
-straight true a b c e = absurd (true≢false (sym (ap is_crooked e)))
-straight false a b c e = (refl, ap (extended_place 0) e, ap (extended_place 1) e, ap (extended_place 2) e)
+asked_none : {A : Type 0} (o : Option A) (e : Refusal) {r : Refusal} → Err r ≡ ok_or o e → (o ≡ None) × (r ≡ e)
+asked_none None e q = (refl, ap (λ x. unwrap_or (result_err x) e) q)
+asked_none (Some b) e q = absurd (false≢true (ap is_ok q))
 
 -- ---- The two answers
 
-refused_by : (t : List ℕ) (n : ℕ) → table_refusal t ≡ n → (n ≡ 0 → ⊥) → Refused n ≡ examined t
+refused_by : (t : List ℕ) (n : ℕ) {r : Refusal} → table_refusal t ≡ n → (n ≡ 0 → ⊥) → r ≡ refusal_numbered n → Err r ≡ examined t
 unfolding examined
-refused_by t zero e z = absurd (z refl)
-refused_by t (suc n) e z = rw e
+refused_by t n e z q = answered_err (table_refusal t) (sections t) (λ y. z (sym e ∙ y)) (q ∙ ap refusal_numbered (sym e))
 
-accepted_by : (t : List ℕ) {p : Sections} → table_refusal t ≡ 0 → p ≡ sections t → Examined-as-Accepted p ≡ examined t
+accepted_by : (t : List ℕ) {p : Sections} → table_refusal t ≡ 0 → p ≡ sections t → Ok p ≡ examined t
 unfolding examined
 accepted_by t e q = rw (e, q)
 
 module _ (t : List ℕ) where
   -- ---- 5 to 9
 
-  pub head_refused : {n : ℕ} → n ≡ header_refusal t → (n ≡ 0 → ⊥) → Refused n ≡ examined t
-  head_refused {n} e z = refused_by t n (stages t ∙ rw (← e) (first_some n _ z)) z
+  module _ {x : Result (Unit {0}) Refusal} (e : x ≡ answered (header_refusal t) tt) where
+    pub head_refused : {r : Refusal} → x ≡ Err r → Err r ≡ examined t
+    head_refused q =
+        let g = given_err (header_refusal t) tt (sym q ∙ e) in
+        refused_by t (header_refusal t) (stages t ∙ first_some (header_refusal t) _ g.0) g.0 g.1
+
+    pub head_passed : {u : Unit {0}} → x ≡ Ok u → header_refusal t ≡ 0
+    head_passed q = (given_ok (header_refusal t) tt (sym q ∙ e)).0
 
   -- ---- 10 to 12: r is what the walk over the base answered
 
   module _ {base count : ℕ} (b : base ≡ base_length t) (k : count ≡ entry_count t) (h : header_refusal t ≡ 0)
-      {r : BaseSections} (e : r ≡ base_sections (take (base - header_size) (drop header_size t)) count) where
-    walk_is : r ≡ base_answer (walk_number t) (base_entries t)
+      {r : Result BaseSections Refusal} (e : r ≡ base_sections (take (base - header_size) (drop header_size t)) count) where
+    walk_is : r ≡ answered (walk_number t) (base_places (base_entries t))
     unfolding base_sections walk_number base_entries
     walk_is = e ∙ rw (b, k)
 
-    pub walk_refused : {n : ℕ} → r ≡ Base-as-Faulty n → Refused n ≡ examined t
-    walk_refused {n} q =
-        let f = base_faulty (walk_number t) (base_entries t) (sym q ∙ walk_is) in
-        refused_by t n (stages t ∙ rw (h, f.0) (first_some n _ f.1)) f.1
+    pub walk_refused : {q : Refusal} → r ≡ Err q → Err q ≡ examined t
+    walk_refused q =
+        let g = given_err (walk_number t) (base_places (base_entries t)) (sym q ∙ walk_is) in
+        refused_by t (walk_number t) (stages t ∙ rw h (first_some (walk_number t) _ g.0)) g.0 g.1
 
     -- The places behind the base are filled in later.
-    pub walk_passed : {x y z u : ℕ} → r ≡ Base-as-Ascending x y z u
+    pub walk_passed : {w : BaseSections} → r ≡ Ok w
         → Walked t (record {
-          buses = header_size + x;
-          ioapics = header_size + y;
-          interrupts = header_size + z;
-          locals = header_size + u;
+          buses = header_size + w.buses;
+          ioapics = header_size + w.ioapics;
+          interrupts = header_size + w.interrupts;
+          locals = header_size + w.locals;
           mappings = base;
           links = base;
           modifiers = base;
@@ -123,14 +101,14 @@ module _ (t : List ℕ) where
         })
     unfolding base_after
     walk_passed q =
-        let f = base_ascending (walk_number t) (base_entries t) (sym q ∙ walk_is) in
+        let g = given_ok (walk_number t) (base_places (base_entries t)) (sym q ∙ walk_is) in
         record {
           header = h;
-          walk = f.0;
-          buses = rw f.1;
-          ioapics = rw f.2;
-          interrupts = rw f.3;
-          locals = rw f.4;
+          walk = g.0;
+          buses = rw g.1;
+          ioapics = rw g.1;
+          interrupts = rw g.1;
+          locals = rw g.1;
           mappings = b;
         }
 
@@ -157,26 +135,29 @@ module _ (t : List ℕ) where
     walked_stages : table_refusal t ≡ cond (wrong_extended t) extended_number (refusal (from14 t))
     walked_stages = stages t ∙ rw (g.header, g.walk)
 
-    pub part_refused : {b : Bool} → b ≡ wrong_extended_part t → b ≡ true → Refused extended_number ≡ examined t
+    pub part_refused : {b : Bool} → b ≡ wrong_extended_part t → b ≡ true → Err ExtendedPart ≡ examined t
+    unfolding refusal_numbered
     part_refused e y =
-        refused_by t extended_number (walked_stages ∙ rw (extended_stages t, ← e, y)) (λ z. omega (arith, z))
+        refused_by t extended_number (walked_stages ∙ rw (extended_stages t, ← e, y)) (λ z. omega (arith, z)) refl
 
     module _ {b : Bool} (e : b ≡ wrong_extended_part t) (n : b ≡ false) {base size : ℕ} (q : base ≡ base_length t) (l : size ≡ extended_length t)
-        {r : ExtendedSections} (f : r ≡ extended_sections (take (base + size - base) (drop base t))) where
+        {r : Option ExtendedSections} (f : r ≡ extended_sections (take (base + size - base) (drop base t))) where
       abbrev xs : List Entry
       xs = extended_entries t
 
-      more_is : r ≡ cond (extended_from 0 xs) Extended-as-Faulty (Extended-as-Ascending (span mapping_type 1 xs) (span mapping_type 2 xs) (span mapping_type 3 xs))
+      more_is : r ≡ cond (extended_from 0 xs) None (Some (extended_places xs))
       unfolding extended_sections extended_entries
       more_is = f ∙ rw (q, l)
 
-      pub more_refused : r ≡ Extended-as-Faulty → Refused extended_number ≡ examined t
-      more_refused y =
-          let f = crooked (extended_from 0 xs) (span mapping_type 1 xs) (span mapping_type 2 xs) (span mapping_type 3 xs) (sym y ∙ more_is) in
-          refused_by t extended_number (walked_stages ∙ rw (extended_stages t, f, or-true)) (λ z. omega (arith, z))
+      pub more_refused : {x : Result ExtendedSections Refusal} → x ≡ ok_or r ExtendedPart → {q : Refusal} → x ≡ Err q → Err q ≡ examined t
+      unfolding refusal_numbered
+      more_refused o y =
+          let g = asked_none r ExtendedPart (sym y ∙ o) in
+          let f = crooked (extended_from 0 xs) (extended_places xs) (sym g.0 ∙ more_is) in
+          refused_by t extended_number (walked_stages ∙ rw (extended_stages t, f, or-true)) (λ z. omega (arith, z)) g.1
 
       -- The places that the judge has put together are those of the definition.
-      module _ {x y z : ℕ} (a : r ≡ Extended-as-Ascending x y z) where
+      module _ {x : Result ExtendedSections Refusal} (o : x ≡ ok_or r ExtendedPart) {w : ExtendedSections} (y : x ≡ Ok w) where
         abbrev found : Sections
         found = record {
           buses = p.buses;
@@ -184,18 +165,18 @@ module _ (t : List ℕ) where
           interrupts = p.interrupts;
           locals = p.locals;
           mappings = base;
-          links = base + x;
-          modifiers = base + y;
-          others = base + z;
+          links = base + w.links;
+          modifiers = base + w.modifiers;
+          others = base + w.others;
           end = base + size;
         }
 
-        known : (extended_from 0 xs ≡ false) × (x ≡ span mapping_type 1 xs) × (y ≡ span mapping_type 2 xs) × (z ≡ span mapping_type 3 xs)
-        known = straight (extended_from 0 xs) (span mapping_type 1 xs) (span mapping_type 2 xs) (span mapping_type 3 xs) (sym a ∙ more_is)
+        known : (extended_from 0 xs ≡ false) × (w ≡ extended_places xs)
+        known = straight (extended_from 0 xs) (extended_places xs) (sym (asked_some r ExtendedPart (sym y ∙ o)) ∙ more_is)
 
         found_places : found ≡ sections t
         unfolding sections extended_after
-        found_places = rw (g.buses, g.ioapics, g.interrupts, g.locals, q, l, known.1, known.2, known.3)
+        found_places = rw (g.buses, g.ioapics, g.interrupts, g.locals, q, l, known.1)
 
         pub more_passed : Bytes t → Ready t found
         more_passed bytes = record {
@@ -208,9 +189,9 @@ module _ (t : List ℕ) where
 
   -- ---- The rules
 
-  module _ {p : Sections} (g : Ready t p) {n : ℕ} (e : n ≡ refusal (from14 t)) where
-    pub rules_refused : (n ≡ 0 → ⊥) → Refused n ≡ examined t
-    rules_refused z = refused_by t n (g.number ∙ sym e) z
+  module _ {p : Sections} (g : Ready t p) {x : Result (Unit {0}) Refusal} (e : x ≡ answered (refusal (from14 t)) tt) where
+    pub rules_refused : {r : Refusal} → x ≡ Err r → Err r ≡ examined t
+    rules_refused q = let h = given_err (refusal (from14 t)) tt (sym q ∙ e) in refused_by t (refusal (from14 t)) g.number h.0 h.1
 
-    pub rules_passed : n ≡ 0 → Examined-as-Accepted p ≡ examined t
-    rules_passed z = accepted_by t (g.number ∙ sym e ∙ z) g.places
+    pub rules_passed : {u : Unit {0}} → x ≡ Ok u → Ok p ≡ examined t
+    rules_passed q = let h = given_ok (refusal (from14 t)) tt (sym q ∙ e) in accepted_by t (g.number ∙ h.0) g.places

@@ -11,7 +11,7 @@ use Rattle.mps.specs.Layout.{Entry, of_type, mapping_type, modifier_type, parent
 use Rattle.mps.specs.Rules.{on_bus, links}
 use Rattle.mps.specs.Addresses.{covers, touches, takes_away, adds, covers_or_adds, has_entry, subtractive, Say, says, another, claims, silent, unclaimed}
 use Rattle.mps.specs.declared.Seen.{Seen}
-use Rattle.mps.specs.declared.Seen.TheVariants.{No, Yes, Undeclared, Refused}
+use Rattle.mps.specs.declared.Seen.TheVariants.{No, Yes, Undeclared}
 use Rattle.laws.proofs.Tests.{or_parts}
 
 abbrev pub is_yes : Say → Bool
@@ -112,11 +112,9 @@ unclaimed_cases C true silence (Yes k) c n u = n k refl
 unclaimed_cases C false true (Yes k) c n u = u k refl
 unclaimed_cases C false false (Yes k) c n u = c
 unclaimed_cases C claim silence (Undeclared k) c n u = c
-unclaimed_cases C claim silence (Refused n) c m u = c
 
 -- All of it, where nobody claims it and nobody is silent.
 pub unclaimed_all : (x : Seen) → unclaimed false false x ≡ x
 unclaimed_all (No k) = refl
 unclaimed_all (Yes k) = refl
 unclaimed_all (Undeclared k) = refl
-unclaimed_all (Refused n) = refl

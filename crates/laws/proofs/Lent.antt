@@ -1,22 +1,24 @@
 -- Laws of an answer in a lent room: what number the call gives, and what the room holds then. Assumes nothing.
 use Prim.Native.Nat.{ℕ, zero, suc, ◌≤◌, ◌<◌}
-use mathlib.Core.Path.{◌≡◌, refl, ap, sym, ◌∙◌}
+use mathlib.Core.Path.{◌≡◌, refl, sym, ◌∙◌}
 use mathlib.Core.Bool.{Bool, true, false}
 use mathlib.Core.Logic.{◌↔◌}
 use mathlib.Core.List.{List, [], ◌∷◌}
 use native.Mathlib.Omega.{arith}
-use lib.ListN.{length, get_or}
+use Rattle.std.specs.Prelude.{Ok, Err}
+use lib.ListN.{length}
 use lib.Seq.{sets}
 use lib.Dec.{eqb}
 use borrow.Author.Tests.{lt-ltb, le-ltb, ne_eqb}
 use Rattle.mps.specs.Words.{among, any, each, put, first}
 use Rattle.mps.specs.Refusals.{Rule, ◌when◌, refusal, room_number}
-use Rattle.mps.specs.Answers.{number_of, lent_numbers, lent_of}
+use Rattle.mps.specs.Reasons.{refusal_numbered}
+use Rattle.mps.specs.Answers.{number_of, lent_numbers, answered}
 use Rattle.mps.specs.Rooms.{too_small, room_rules, lent_refusal, lent_left, room_refusal, fitted, fit_left}
-use Rattle.mps.specs.declared.Lent.{Lent}
-use Rattle.mps.specs.declared.Lent.TheVariants.{Count, Refused}
+use Rattle.mps.specs.declared.refusals.Refusal.TheVariants.{RoomTooSmall}
 use Rattle.laws.proofs.Refusals.{number, so, first_some, first_none, refusal_append, refusal_pass}
 use Rattle.laws.proofs.Refusals.{given_exactly, given_before}
+use Rattle.laws.proofs.Answers.{given_ok}
 use Rattle.laws.proofs.Stores.{sets_at_start}
 
 -- ---- The number
@@ -62,40 +64,15 @@ pub left_put : (answer room : List ℕ) → lent_left 0 answer room ≡ put answ
 unfolding lent_left
 left_put answer room = refl
 
--- The answer as a number and a count.
-pub lent_of_lem : (n count : ℕ) → number_of (lent_numbers (lent_of n count)) ≡ n
-lent_of_lem zero count = refl
-lent_of_lem (suc n) count = refl
-
-pub lent_refused : (n count : ℕ) → (n ≡ 0 → ⊥) → Refused n ≡ lent_of n count
-lent_refused zero count z = absurd (z refl)
-lent_refused (suc n) count z = refl
-
--- And back: a count is the answer's, and a refusal's number the call's.
-value_of : Lent → ℕ
-value_of r = get_or (lent_numbers r) 1 0
-
-values : Lent → ℕ
-values r = length (lent_numbers r)
-
-pub count_given : (m count : ℕ) {n : ℕ} → Count n ≡ lent_of m count → (m ≡ 0) × (n ≡ count)
-unfolding value_of values
-count_given zero count e = (refl, ap value_of e)
-count_given (suc m) count e = absurd (omega (arith, ap values e))
-
-pub refused_given : (m count : ℕ) {n : ℕ} → Refused n ≡ lent_of m count → (0 < n) × (m ≡ n)
-unfolding values
-refused_given zero count e = absurd (omega (arith, ap values e))
-refused_given (suc m) count e = let k = ap (λ (r : Lent). number_of (lent_numbers r)) e in (omega (arith, k), omega (arith, k))
-
 -- What is refused leaves the room as it was,
-pub lent_kept : (n count : ℕ) (answer room : List ℕ) → (number_of (lent_numbers (lent_of n count)) ≡ 0 → ⊥) → lent_left n answer room ≡ room
-lent_kept n count answer room z = left_kept n answer room (λ e. z (lent_of_lem n count ∙ e))
+pub lent_kept : (n count : ℕ) (answer room : List ℕ) → (number_of (lent_numbers (answered n count)) ≡ 0 → ⊥) → lent_left n answer room ≡ room
+lent_kept zero count answer room z = absurd (z refl)
+lent_kept (suc n) count answer room z = left_kept (suc n) answer room (λ e. absurd (omega (arith, e)))
 
 -- and what is counted stands at its first byte.
-pub lent_shown : (m count : ℕ) (answer room : List ℕ) {n : ℕ} → lent_of m count ≡ Count n → (n ≡ count) × (lent_left m answer room ≡ put answer room)
+pub lent_shown : (m count : ℕ) (answer room : List ℕ) {n : ℕ} → answered m count ≡ Ok n → (n ≡ count) × (lent_left m answer room ≡ put answer room)
 lent_shown m count answer room e =
-    let g = count_given m count (sym e) in
+    let g = given_ok m count (sym e) in
     (g.1, rw g.0 (left_put answer room))
 
 -- ---- An answer that nothing but its room can refuse
@@ -106,12 +83,12 @@ fits answer room h = rw (le-ltb (length room) (length answer) h)
 
 module _ (answer : List ℕ) (count : ℕ) (room : List ℕ) where
   pub fit_put : {n : ℕ} {u : List ℕ} → n ≡ count → length answer ≤ length room → u ≡ sets room 0 answer
-      → (Count n ≡ fitted answer count room) × (u ≡ fit_left answer room)
+      → (Ok n ≡ fitted answer count room) × (u ≡ fit_left answer room)
   unfolding fitted fit_left
   fit_put e h k = let z = fits answer room h in (rw (z, e), rw (z, left_put answer room) (k ∙ sets_at_start room answer h))
 
-  pub fit_short : length room < length answer → (Refused room_number ≡ fitted answer count room) × (room ≡ fit_left answer room)
-  unfolding fitted fit_left room_refusal lent_refusal room_rules lent_left refusal too_small
+  pub fit_short : length room < length answer → (Err RoomTooSmall ≡ fitted answer count room) × (room ≡ fit_left answer room)
+  unfolding fitted fit_left room_refusal lent_refusal room_rules lent_left refusal too_small refusal_numbered
   fit_short h = let t = lt-ltb (length room) (length answer) h in (rw t, rw t)
 
 -- Where a call's rows refuse nothing, its answer goes into the room as any does.

@@ -12,6 +12,7 @@ pub mod Cut
 pub mod Rows
 pub mod Small
 pub mod Refusals
+pub mod Answers
 pub mod Circle
 pub mod Claims
 pub mod Lent

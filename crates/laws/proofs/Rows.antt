@@ -3,9 +3,19 @@ use Prim.Native.Nat.{ℕ, zero, suc, pred, ◌+◌, ◌-◌, ◌/◌, ◌≤◌,
 use mathlib.Core.Path.{◌≡◌, refl, sym, ◌∙◌}
 use mathlib.Core.Bool.{Bool, true, false}
 use mathlib.Core.List.{List, [], ◌∷◌, ◌++◌}
+use denote.Ref.{Bor}
+use denote.Param.Members.{Mut}
 use native.Mathlib.Omega.{arith}
 use lib.ListN.{length, get_or, take, drop, length-drop, length-append, drop_of_length-le}
 use Rattle.std.proofs.lemmas.List.{take_at, drop_at}
+use Rattle.std.specs.Fn.{Called}
+use Rattle.std.specs.Iterator.{Yields, ChecksAny}
+use Rattle.std.specs.List.{FoldsTo}
+use Rattle.std.specs.Option.{MatchOption}
+use Rattle.std.specs.Slice.Iter.{chunks_exact_rest, chunks_exact_size, chunks_exact_steps}
+use Rattle.std.specs.declared.slice.ChunksExact.{ChunksExact}
+use Rattle.std.specs.declared.option.Option.{Option}
+use Rattle.std.specs.declared.option.Option.TheVariants.{None, Some}
 use lib.Seq.{get_or-drop, get_or-take, length-take-le, take_all}
 use lib.Dec.{ltb}
 use borrow.Author.Tests.{eq-eqb, ne_eqb, ltb-true, ltb-false}
@@ -98,6 +108,45 @@ module _ (p : Entry → Bool) (n : ℕ) (rest : List ℕ) where
     pub any_next : p e ≡ false → any p (rows n rest) ≡ any p (rows n left)
     unfolding any
     any_next t = rw (c, rows_cut n e left z h, t)
+
+-- One row there, and those behind it: what stands so of a list of entries stands so of the rows that are left.
+module _ (n : ℕ) (rest e left : List ℕ) (z : 0 < n) (h : length e ≡ n) (c : rest ≡ e ++ left) where
+  pub rows_more : rows n rest ≡ e ∷ rows n left
+  rows_more = rw (c, rows_cut n e left z h)
+
+-- What a `for` over pieces steps by, for a function of the rows left; and the same of `any`.
+pub ruleset row_steps = (rows_short, rows_more)
+
+pub ruleset any_steps = (any_end, any_stop, any_next)
+
+-- `any` of `chunks_exact`, whose closure says of each piece what p says of a row.
+module _ {F : Type 0} {g : Mut F (Bor (List ℕ) × Unit {0}) Bool} (p : Entry → Bool) {n : ℕ} {f : F} (z : 0 < n)
+    (says : (x : Bor (List ℕ)) (b : Bool) (q : F) → length x.now ≡ n → Called g f (x, tt) b q → (q ≡ f) × (p x.now ≡ b))
+  where
+    any_left :
+        (xs : List (Bor (List ℕ))) (s t u : ChunksExact ℕ) (h : F) (o : Option (Bor (List ℕ))) (r : Bool)
+        → chunks_exact_size s ≡ n → Yields chunks_exact_steps s xs t → chunks_exact_steps t o u
+        → FoldsTo (λ q x k. Called g q (x, tt) false k) f xs h
+        → MatchOption o (r ≡ false) (λ x. (r ≡ true) × ((k : F) × Called g h (x, tt) true k))
+        → r ≡ any p (rows n (chunks_exact_rest s))
+    any_left [] s t u h None r k y w c e =
+        let m = rw y at k in
+        rw y (e ∙ sym (any_end p n (chunks_exact_rest t) (omega (arith, w.1.0, m))))
+    any_left [] s t u h (Some x) r k y w c e =
+        let m = rw y at k in
+        let a : length x.now ≡ n = w.1.1 ∙ m in
+        let b = says x true e.1.0 a (rw c e.1.1) in
+        rw y (e.0 ∙ sym (any_stop p n (chunks_exact_rest t) x.now (chunks_exact_rest u) z a w.1.0 b.1))
+    any_left (x ∷ xs) s t u h o r k y w c e =
+        let a : length x.now ≡ n = y.1.1.1 ∙ k in
+        let b = says x false c.0 a c.1 in
+        any_left xs y.0 t u h o r (y.1.0 ∙ k) y.2 w (rw (← b.0) c.2) e
+        ∙ sym (any_next p n (chunks_exact_rest s) x.now (chunks_exact_rest y.0) z a y.1.1.0 b.1)
+
+    pub any_of_pieces :
+        {s u : ChunksExact ℕ} {bytes : List ℕ} {r : Bool} → ChecksAny chunks_exact_steps g s f r u → chunks_exact_size s ≡ n → chunks_exact_rest s ≡ bytes
+        → r ≡ any p (rows n bytes)
+    any_of_pieces {s} {u} {bytes} {r} d k l = rw (← l) (any_left d.0 s d.3.0 u d.2 d.1 r k d.3.1 d.3.2 d.4 d.5)
 
 -- What is so of no rows, and of one row and those behind it where it is so of those, is so of all rows from a place on. P
 -- is told the place too; k is any number of bytes that the rest does not pass.

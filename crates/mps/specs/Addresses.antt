@@ -1,6 +1,6 @@
 -- The addresses that a bus sees. Document 01, "Routes and addresses", second paragraph, as document 02 amends it in ask 5;
 -- MPS 4.4.1 to 4.4.3 and Appendix E.
-use Rattle.std.specs.Prelude.{ℕ, zero, suc, ◌+◌, ◌-◌, Bool, cond, not, ◌||◌, ◌&&◌, List, [], ◌∷◌, ◌++◌, length, leb, ltb, eqb}
+use Rattle.std.specs.Prelude.{ℕ, zero, suc, ◌+◌, ◌-◌, Bool, cond, not, ◌||◌, ◌&&◌, List, [], ◌∷◌, ◌++◌, length, leb, ltb, eqb, Result}
 use Rattle.mps.specs.Words.{any, each, keep, head}
 use Rattle.mps.specs.Refusals.{Rule, ◌when◌, refusal, query_number}
 use Rattle.mps.specs.Ranges.{in_list}
@@ -8,9 +8,10 @@ use Rattle.mps.specs.Layout.{Entry, of_type, bus_type, mapping_type, modifier_ty
 use Rattle.mps.specs.Layout.{space_kind, space_kind_most, space_base, space_length, extended_bus, subtractive_bit, parent_bus, takes_bit, range_list}
 use Rattle.mps.specs.Rules.{on_bus, links, parents_of, is_listed, ids_of}
 use Rattle.mps.specs.Judge.{table_rules}
-use Rattle.mps.specs.Answers.{seen_of}
+use Rattle.mps.specs.Answers.{answered}
+use Rattle.mps.specs.declared.refusals.Refusal.{Refusal}
 use Rattle.mps.specs.declared.Seen.{Seen}
-use Rattle.mps.specs.declared.Seen.TheVariants.{No, Yes, Undeclared, Refused}
+use Rattle.mps.specs.declared.Seen.TheVariants.{No, Yes, Undeclared}
 
 -- ---- What one extended entry says of an address of a kind on a bus
 
@@ -103,7 +104,6 @@ abbrev pub unclaimed : Bool → Bool → Seen → Seen
 unclaimed claim silence (Yes climbed) = cond claim (No climbed) (cond silence (Undeclared climbed) (Yes climbed))
 unclaimed claim silence (No climbed) = No climbed
 unclaimed claim silence (Undeclared climbed) = Undeclared climbed
-unclaimed claim silence (Refused n) = Refused n
 
 -- What the other buses with that parent leave of its answer for a bus.
 unfoldable pub leaves : List Entry → ℕ → ℕ → ℕ → ℕ → Seen → Seen
@@ -136,5 +136,5 @@ unfoldable pub address_rules : List ℕ → ℕ → ℕ → List Rule
 address_rules t bus kind = table_rules t ++ (query_number when wrong_space t bus kind ∷ [])
 
 -- The answer of the query.
-unfoldable pub seen : List ℕ → ℕ → ℕ → ℕ → Seen
-seen t bus kind address = seen_of (refusal (address_rules t bus kind)) (seen_by t bus kind address)
+unfoldable pub seen : List ℕ → ℕ → ℕ → ℕ → Result Seen Refusal
+seen t bus kind address = answered (refusal (address_rules t bus kind)) (seen_by t bus kind address)

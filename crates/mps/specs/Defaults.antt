@@ -1,10 +1,10 @@
 -- The default configurations: the full table that each of the seven stands for, and the listing of one. Document 02, ask 6; MPS
 -- chapter 5. The three tables are Intel's, cell by cell. Where chapter 5 leaves a field open, docs/DEFAULTS.md says what stands
 -- there and why.
-use Rattle.std.specs.Prelude.{ℕ, suc, ◌+◌, ◌-◌, ◌*◌, Bool, cond, not, ◌||◌, ◌&&◌, List, [], ◌∷◌, ◌++◌, length, get_or, replicate, ltb, eqb}
+use Rattle.std.specs.Prelude.{ℕ, suc, ◌+◌, ◌-◌, ◌*◌, Bool, cond, not, ◌||◌, ◌&&◌, List, [], ◌∷◌, ◌++◌, length, get_or, replicate, ltb, eqb, Result}
 use Rattle.mps.specs.Words.{text, flag, within, keep, head, joined}
 use Rattle.mps.specs.Refusals.{Rule, ◌when◌, default_number}
-use Rattle.mps.specs.Answers.{lent_of}
+use Rattle.mps.specs.Answers.{answered}
 use Rattle.mps.specs.Rooms.{too_small, lent_refusal, lent_left}
 use Rattle.mps.specs.Numbers.{bytes}
 use Rattle.mps.specs.Layout.{Entry, default_most, boot_most, feature1, processor_type, bus_type, io_apic_type, io_interrupt_type, local_interrupt_type}
@@ -14,7 +14,7 @@ use Rattle.mps.specs.Judge.{dump_rules}
 use Rattle.mps.specs.Listing.{pointer_line, table_lines, listing}
 use Rattle.mps.specs.Writing.{Parts, image}
 use Rattle.mps.specs.declared.Fields.{Fields}
-use Rattle.mps.specs.declared.Lent.{Lent}
+use Rattle.mps.specs.declared.refusals.Refusal.{Refusal}
 
 -- ---- Table 5-1. Default Configurations
 
@@ -179,8 +179,8 @@ unfoldable pub make_refusal : ℕ → ℕ → List ℕ → ℕ
 make_refusal n boot room = lent_refusal (default_number when no_default n boot ∷ []) (too_small (length (default_table n boot)) room)
 
 -- How many bytes stand in the room.
-unfoldable pub made : ℕ → ℕ → List ℕ → Lent
-made n boot room = lent_of (make_refusal n boot room) (length (default_table n boot))
+unfoldable pub made : ℕ → ℕ → List ℕ → Result ℕ Refusal
+made n boot room = answered (make_refusal n boot room) (length (default_table n boot))
 
 unfoldable pub make_left : ℕ → ℕ → List ℕ → List ℕ
 make_left n boot room = lent_left (make_refusal n boot room) (default_table n boot) room
@@ -207,8 +207,8 @@ full_rules d boot = dump_rules d ++ (default_number when wrong_boot d boot ∷ [
 unfoldable pub full_refusal : List ℕ → ℕ → List ℕ → ℕ
 full_refusal d boot room = lent_refusal (full_rules d boot) (too_small (length (full_listing d boot)) room)
 
-unfoldable pub full_listed : List ℕ → ℕ → List ℕ → Lent
-full_listed d boot room = lent_of (full_refusal d boot room) (length (full_listing d boot))
+unfoldable pub full_listed : List ℕ → ℕ → List ℕ → Result ℕ Refusal
+full_listed d boot room = answered (full_refusal d boot room) (length (full_listing d boot))
 
 unfoldable pub full_left : List ℕ → ℕ → List ℕ → List ℕ
 full_left d boot room = lent_left (full_refusal d boot room) (full_listing d boot) room

@@ -1,5 +1,5 @@
 -- Edits. Document 01, numbers 20 to 23, and "Edits test the table, then 20 to 23".
-use Rattle.std.specs.Prelude.{ℕ, ◌+◌, Bool, cond, not, ◌||◌, List, [], ◌∷◌, ◌++◌, length, get_or, take, set, ltb, eqb}
+use Rattle.std.specs.Prelude.{ℕ, ◌+◌, Bool, cond, not, ◌||◌, List, [], ◌∷◌, ◌++◌, length, get_or, take, set, ltb, eqb, Result}
 use Rattle.std.proofs.lemmas.List.Edits.{sets}
 use Rattle.mps.specs.Words.{same, each}
 use Rattle.mps.specs.Refusals.{Rule, ◌when◌, refusal, inner_number}
@@ -7,7 +7,7 @@ use Rattle.mps.specs.Sums.{total, sum256, to_store}
 use Rattle.mps.specs.Layout.{Entry, type, header_size, checksum_at, base_bytes, entry_count, base_entries}
 use Rattle.mps.specs.Judge.{table_rules, table_refusal}
 use Rattle.mps.specs.Answers.{edited_of}
-use Rattle.mps.specs.declared.Edited.{Edited}
+use Rattle.mps.specs.declared.refusals.EditRefusal.{EditRefusal}
 
 -- An edit: the number of a base entry, the bytes that its author saw there, and those that are to stand there.
 pub record Edit : Type 0 where
@@ -71,7 +71,7 @@ edit_refusal t e = refusal (edit_rules t e)
 -- ---- The call
 
 -- The answer.
-unfoldable pub edited : List ℕ → Edit → Edited
+unfoldable pub edited : List ℕ → Edit → Result (Unit {0}) EditRefusal
 edited t e = edited_of (edit_refusal t e) (inner_refusal t e)
 
 -- What the call leaves of the table: a refusal changes no byte.
@@ -86,6 +86,6 @@ run t [] = t
 run t (e ∷ es) = run (edit_left t e) es
 
 -- The answer of each.
-unfoldable pub run_answers : List ℕ → List Edit → List Edited
+unfoldable pub run_answers : List ℕ → List Edit → List (Result (Unit {0}) EditRefusal)
 run_answers t [] = []
 run_answers t (e ∷ es) = edited t e ∷ run_answers (edit_left t e) es

@@ -1,11 +1,11 @@
 -- The numbers 1 to 18 in their order. Document 01, "Refusal numbers, tested in this order".
-use Rattle.std.specs.Prelude.{ℕ, cond, not, List, [], ◌∷◌, ◌++◌}
+use Rattle.std.specs.Prelude.{ℕ, cond, not, List, [], ◌∷◌, ◌++◌, Result}
 use Rattle.mps.specs.Words.{only}
 use Rattle.mps.specs.Refusals.{Rule, ◌when◌, refusal, base_number, type_number, cut_number, order_number, extended_number}
 use Rattle.mps.specs.Layout.{base_entries, extended_entries, feature1}
-use Rattle.mps.specs.Answers.{judged_of, examined_of, held_of}
-use Rattle.mps.specs.declared.Judged.{Judged}
-use Rattle.mps.specs.declared.Examined.{Examined}
+use Rattle.mps.specs.Answers.{answered}
+use Rattle.mps.specs.declared.refusals.Refusal.{Refusal}
+use Rattle.mps.specs.declared.Sections.{Sections}
 use Rattle.mps.specs.declared.Held.{Held}
 use Rattle.mps.specs.declared.Held.TheVariants.{Default, Table}
 use Rattle.mps.specs.Dump.{sound_dump}
@@ -57,12 +57,12 @@ dump_refusal d = refusal (dump_rules d)
 -- ---- What the judge and the dump reader answer
 
 -- The judge's answer of a bare table.
-unfoldable pub judged : List ℕ → Judged
-judged t = judged_of (table_refusal t)
+unfoldable pub judged : List ℕ → Result (Unit {0}) Refusal
+judged t = answered (table_refusal t) tt
 
 -- The same, and of an accepted table where its entries stand.
-unfoldable pub examined : List ℕ → Examined
-examined t = examined_of (table_refusal t) (sections t)
+unfoldable pub examined : List ℕ → Result Sections Refusal
+examined t = answered (table_refusal t) (sections t)
 
 -- What the pointer of a dump tells: "default configuration n", or a table.
 unfoldable pub told : List ℕ → Held
@@ -71,9 +71,9 @@ told d =
     (Table (pointer d).address (imcr_of d) (table_address d) (table_start d) (table_end d))
 
 -- The pointer's answer, before any table is judged: 1 to 4, or what it tells.
-unfoldable pub pointed : List ℕ → Held
-pointed d = held_of (refusal (pointer_rules d)) (told d)
+unfoldable pub pointed : List ℕ → Result Held Refusal
+pointed d = answered (refusal (pointer_rules d)) (told d)
 
 -- The dump reader's answer.
-unfoldable pub held : List ℕ → Held
-held d = held_of (dump_refusal d) (told d)
+unfoldable pub held : List ℕ → Result Held Refusal
+held d = answered (dump_refusal d) (told d)

@@ -1,5 +1,6 @@
 pub mod Words
 pub mod Refusals
+pub mod Reasons
 pub mod Answers
 pub mod Rooms
 pub mod Sums

@@ -1,5 +1,5 @@
 -- The listing, to the byte. Document 01, "The bench board" from "Its listing" on.
-use Rattle.std.specs.Prelude.{ℕ, zero, suc, ◌+◌, ◌/◌, ◌%◌, Bool, cond, not, List, [], ◌∷◌, ◌++◌, length, ltb, eqb}
+use Rattle.std.specs.Prelude.{ℕ, zero, suc, ◌+◌, ◌/◌, ◌%◌, Bool, cond, not, List, [], ◌∷◌, ◌++◌, length, ltb, eqb, Result}
 use Rattle.mps.specs.Words.{text, flag, keep, joined}
 use Rattle.mps.specs.Layout.{Entry, type, of_type, processor_type, bus_type, io_apic_type, io_interrupt_type, mapping_type, hierarchy_type, modifier_type}
 use Rattle.mps.specs.Layout.{feature1, base_length, extended_length, entry_count, base_entries, extended_entries, extended_entry_length}
@@ -8,9 +8,9 @@ use Rattle.mps.specs.Layout.{interrupt_type, source_bus, source_irq, polarity, t
 use Rattle.mps.specs.Layout.{extended_bus, space_kind, space_base, space_length, parent_bus, subtractive_bit, takes_bit, range_list}
 use Rattle.mps.specs.Pointer.{pointer, pointer_bytes, is_default, imcr_of, table_address, table_in}
 use Rattle.mps.specs.Judge.{dump_rules, dump_refusal}
-use Rattle.mps.specs.Answers.{lent_of}
+use Rattle.mps.specs.Answers.{answered}
 use Rattle.mps.specs.Rooms.{too_small, lent_refusal, lent_left, fitted_bytes, fit_left}
-use Rattle.mps.specs.declared.Lent.{Lent}
+use Rattle.mps.specs.declared.refusals.Refusal.{Refusal}
 
 -- ---- Numbers
 
@@ -186,15 +186,15 @@ unfoldable pub list_refusal : List ℕ → List ℕ → ℕ
 list_refusal d room = lent_refusal (dump_rules d) (too_small (length (listing d)) room)
 
 -- How many bytes stand in the room.
-unfoldable pub listed : List ℕ → List ℕ → Lent
-listed d room = lent_of (list_refusal d room) (length (listing d))
+unfoldable pub listed : List ℕ → List ℕ → Result ℕ Refusal
+listed d room = answered (list_refusal d room) (length (listing d))
 
 unfoldable pub list_left : List ℕ → List ℕ → List ℕ
 list_left d room = lent_left (list_refusal d room) (listing d) room
 
 -- ---- The listing program's call: the same for all that it writes, so that only a room too small is refused
 
-unfoldable pub printed : List ℕ → List ℕ → Lent
+unfoldable pub printed : List ℕ → List ℕ → Result ℕ Refusal
 printed d room = fitted_bytes (program_output d) room
 
 unfoldable pub print_left : List ℕ → List ℕ → List ℕ

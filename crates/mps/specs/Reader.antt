@@ -1,9 +1,8 @@
 -- The entry reader at any place of any buffer. Document 01, "The entries are walked by a reader ..".
 -- The place is a byte offset from the table's start; the buffer need not be a sound table.
-use Rattle.std.specs.Prelude.{ℕ, ◌+◌, min, cond, ◌||◌, ◌&&◌, List, length, take, drop, leb, ltb}
+use Rattle.std.specs.Prelude.{ℕ, ◌+◌, min, cond, ◌||◌, ◌&&◌, List, length, take, drop, leb, ltb, Option}
 use Rattle.mps.specs.Layout.{Entry, last_base_type, first_extended_type, least_length, header_size, base_length, extended_end, type, base_entry_length, extended_entry_length}
 use Rattle.mps.specs.Answers.{found_of}
-use Rattle.mps.specs.declared.Found.{Found}
 
 -- "The ends are the header's, cut at the buffer's."
 abbrev pub read_base_end : List ℕ → ℕ
@@ -40,5 +39,5 @@ entry_at t place = take (size_at t place) (drop place t)
 unfoldable pub next_place : List ℕ → ℕ → ℕ
 next_place t place = place + size_at t place
 
-unfoldable pub found : List ℕ → ℕ → Found
+unfoldable pub found : List ℕ → ℕ → Option ℕ
 found t place = found_of (size_at t place)

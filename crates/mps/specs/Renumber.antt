@@ -1,13 +1,14 @@
 -- New numbers for I/O APICs. Document 02, ask 2; MPS 3.6.6: "It is the responsibility of the operating system to verify the
 -- uniqueness of the I/O APIC ID and to assign a unique ID if a conflict is found."
-use Rattle.std.specs.Prelude.{ℕ, Bool, true, false, not, ◌||◌, List, [], ◌∷◌, ◌++◌, length}
+use Rattle.std.specs.Prelude.{ℕ, Bool, true, false, not, ◌||◌, List, [], ◌∷◌, ◌++◌, length, Result}
 use Rattle.mps.specs.Words.{among, none, head, keep, each, below}
 use Rattle.mps.specs.Refusals.{Rule, ◌when◌, refusal}
 use Rattle.mps.specs.Layout.{Entry, processor_type, io_apic_type, id_of, everyone, base_entries}
 use Rattle.mps.specs.Rules.{enabled_of, enabled_ids}
 use Rattle.mps.specs.Judge.{table_rules}
-use Rattle.mps.specs.Answers.{renumbered_of}
+use Rattle.mps.specs.Answers.{answered}
 use Rattle.mps.specs.Rooms.{too_small, room_rules, lent_left}
+use Rattle.mps.specs.declared.refusals.Refusal.{Refusal}
 use Rattle.mps.specs.declared.Renumbered.{Renumbered}
 
 -- ---- Who needs a number, and what is free
@@ -81,9 +82,9 @@ renumber_rules t room =
 unfoldable pub renumber_refusal : List ℕ → List ℕ → ℕ
 renumber_refusal t room = refusal (renumber_rules t room)
 
-unfoldable pub renumbered : List ℕ → List ℕ → Renumbered
+unfoldable pub renumbered : List ℕ → List ℕ → Result Renumbered Refusal
 renumbered t room =
-    renumbered_of (renumber_refusal t room) (length (new_numbers_of t)) (bits_set (used_numbers (base_entries t)))
+    answered (renumber_refusal t room) (record { count = length (new_numbers_of t); used = bits_set (used_numbers (base_entries t)) })
 
 unfoldable pub renumber_left : List ℕ → List ℕ → List ℕ
 renumber_left t room = lent_left (renumber_refusal t room) (new_numbers_of t) room

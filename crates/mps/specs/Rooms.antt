@@ -2,11 +2,11 @@
 -- its answer so. Document 01: 19, "answer longer than the lent room"; "Answers and images start at their room's first byte;
 -- what lies past them stays." Demand 1: "A refusal writes nothing into lent memory, with one exception": the writer is refused
 -- here by what it tests before it writes, and a finished image that is refused is zeros (Writing, `finished`).
-use Rattle.std.specs.Prelude.{ℕ, Bool, cond, List, [], ◌∷◌, ◌++◌, length, ltb, eqb}
+use Rattle.std.specs.Prelude.{ℕ, Bool, cond, List, [], ◌∷◌, ◌++◌, length, ltb, eqb, Result}
 use Rattle.mps.specs.Words.{put}
 use Rattle.mps.specs.Refusals.{Rule, ◌when◌, refusal, room_number}
-use Rattle.mps.specs.Answers.{lent_of}
-use Rattle.mps.specs.declared.Lent.{Lent}
+use Rattle.mps.specs.Answers.{answered}
+use Rattle.mps.specs.declared.refusals.Refusal.{Refusal}
 
 -- Whether so many bytes are more than a room has.
 unfoldable pub too_small : ℕ → List ℕ → Bool
@@ -30,11 +30,11 @@ unfoldable pub room_refusal : List ℕ → List ℕ → ℕ
 room_refusal answer room = lent_refusal [] (too_small (length answer) room)
 
 -- The count goes with the answer: of its bytes, or of the pieces that they make.
-unfoldable pub fitted : List ℕ → ℕ → List ℕ → Lent
-fitted answer count room = lent_of (room_refusal answer room) count
+unfoldable pub fitted : List ℕ → ℕ → List ℕ → Result ℕ Refusal
+fitted answer count room = answered (room_refusal answer room) count
 
 -- Counted in bytes.
-abbrev pub fitted_bytes : List ℕ → List ℕ → Lent
+abbrev pub fitted_bytes : List ℕ → List ℕ → Result ℕ Refusal
 fitted_bytes answer room = fitted answer (length answer) room
 
 unfoldable pub fit_left : List ℕ → List ℕ → List ℕ

@@ -1,14 +1,14 @@
 -- Interrupt routes. Document 01, "Routes and addresses", first paragraph; MPS 4.3.4 and 4.3.5. MPS connects destination 0FFh
 -- to all APICs; the paper to the enabled ones. (MPS 4.3.1 and 4.3.3 call one without its EN bit "unusable".)
-use Rattle.std.specs.Prelude.{ℕ, ◌/◌, Bool, not, ◌||◌, ◌&&◌, List, [], ◌∷◌, ◌++◌, length, ltb, eqb}
+use Rattle.std.specs.Prelude.{ℕ, ◌/◌, Bool, not, ◌||◌, ◌&&◌, List, [], ◌∷◌, ◌++◌, length, ltb, eqb, Result}
 use Rattle.mps.specs.Words.{keep, each, joined}
 use Rattle.mps.specs.Refusals.{Rule, ◌when◌, query_number}
 use Rattle.mps.specs.Layout.{Entry, of_type, interrupt_type_most, id_of, interrupt_type, source_bus, source_irq, destination, input, everyone, base_entries}
 use Rattle.mps.specs.Rules.{Side, enabled_of, is_listed}
 use Rattle.mps.specs.Judge.{table_rules}
-use Rattle.mps.specs.Answers.{lent_of}
+use Rattle.mps.specs.Answers.{answered}
 use Rattle.mps.specs.Rooms.{too_small, lent_refusal, lent_left}
-use Rattle.mps.specs.declared.Lent.{Lent}
+use Rattle.mps.specs.declared.refusals.Refusal.{Refusal}
 
 -- A question: the side that it is about, and "interrupt type, bus and IRQ".
 pub record Question : Type 0 where
@@ -66,8 +66,8 @@ unfoldable pub route_refusal : Question → List ℕ → List ℕ → ℕ
 route_refusal q t room = lent_refusal (line_rules q t) (too_small (length (routes_of q t)) room)
 
 -- "No match is count 0."
-unfoldable pub routed : Question → List ℕ → List ℕ → Lent
-routed q t room = lent_of (route_refusal q t room) (length (routes_of q t) / pair_size)
+unfoldable pub routed : Question → List ℕ → List ℕ → Result ℕ Refusal
+routed q t room = answered (route_refusal q t room) (length (routes_of q t) / pair_size)
 
 unfoldable pub routes_left : Question → List ℕ → List ℕ → List ℕ
 routes_left q t room = lent_left (route_refusal q t room) (routes_of q t) room

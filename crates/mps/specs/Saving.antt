@@ -1,13 +1,14 @@
 -- Saving a table in a book, and restoring one. Document 02, ask 3: "A save adds row and body last." "Refusals: 27 bad book, a bad
 -- body inside it too; then the new body's own number, or 7 if bytes follow the table; 28 not the latest, or an edition to
 -- restore that the book doesn't hold; 29 .. None writes."
-use Rattle.std.specs.Prelude.{ℕ, ◌+◌, Bool, not, ◌||◌, List, [], ◌∷◌, ◌++◌, length, ltb, eqb}
+use Rattle.std.specs.Prelude.{ℕ, ◌+◌, Bool, not, ◌||◌, List, [], ◌∷◌, ◌++◌, length, ltb, eqb, Result}
 use Rattle.mps.specs.Refusals.{Rule, ◌when◌, refusal, not_latest_number}
 use Rattle.mps.specs.Layout.{edition_most}
-use Rattle.mps.specs.Answers.{booked_of}
+use Rattle.mps.specs.Answers.{answered}
 use Rattle.mps.specs.Rooms.{too_small, lent_left}
 use Rattle.mps.specs.Book.{Row, BookLayout, latest, body_rules, book_of, rows_of}
 use Rattle.mps.specs.History.{book_rules, edition_body, edition_rules}
+use Rattle.mps.specs.declared.refusals.Refusal.{Refusal}
 use Rattle.mps.specs.declared.Booked.{Booked}
 
 -- ---- An edition more
@@ -41,8 +42,8 @@ unfoldable pub addition_rules : BookLayout → List ℕ → Addition → List Ru
 addition_rules l s a = not_latest_number when not_latest l s a ∷ 29 when book_full l s a ∷ []
 
 -- The answer: the rows and bytes of the book then.
-unfoldable pub grown : BookLayout → List ℕ → Addition → ℕ → Booked
-grown l s a number = booked_of number (length (rows_of l s) + 1) (length (grown_book l s a))
+unfoldable pub grown : BookLayout → List ℕ → Addition → ℕ → Result Booked Refusal
+grown l s a number = answered number (record { rows = length (rows_of l s) + 1; size = length (grown_book l s a) })
 
 -- ---- The two calls
 
@@ -65,7 +66,7 @@ ask_rules l s (restore machine old now) = edition_rules l s machine old
 unfoldable pub add_refusal : BookLayout → List ℕ → Ask → ℕ
 add_refusal l s ask = refusal (ask_rules l s ask ++ addition_rules l s (addition l s ask))
 
-unfoldable pub added : BookLayout → List ℕ → Ask → Booked
+unfoldable pub added : BookLayout → List ℕ → Ask → Result Booked Refusal
 added l s ask = grown l s (addition l s ask) (add_refusal l s ask)
 
 -- What the call leaves in the room: "None writes."
@@ -80,6 +81,6 @@ add_run l s [] = s
 add_run l s (ask ∷ asks) = add_run l (add_left l s ask) asks
 
 -- The answer of each.
-unfoldable pub add_answers : BookLayout → List ℕ → List Ask → List Booked
+unfoldable pub add_answers : BookLayout → List ℕ → List Ask → List (Result Booked Refusal)
 add_answers l s [] = []
 add_answers l s (ask ∷ asks) = added l s ask ∷ add_answers l (add_left l s ask) asks

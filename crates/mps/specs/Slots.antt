@@ -1,14 +1,14 @@
 -- PCI slots: where the interrupt of one goes, and which ones a table names. Document 02, ask 1; MPS Appendix D.3.
-use Rattle.std.specs.Prelude.{ℕ, ◌/◌, Bool, not, ◌||◌, ◌&&◌, List, [], ◌∷◌, ◌++◌, length, leb, eqb}
+use Rattle.std.specs.Prelude.{ℕ, ◌/◌, Bool, not, ◌||◌, ◌&&◌, List, [], ◌∷◌, ◌++◌, length, leb, eqb, Result}
 use Rattle.mps.specs.Words.{text, same, among, any, keep, each, only, joined, below}
 use Rattle.mps.specs.Refusals.{Rule, ◌when◌, query_number}
 use Rattle.mps.specs.Layout.{Entry, of_type, bus_type, io_apic_type, io_interrupt_type, id_of, name_of, interrupt_type, vectored, source_bus, pins, devices, pin_of, device_of, base_entries}
 use Rattle.mps.specs.Rules.{enabled_of, is_listed}
 use Rattle.mps.specs.Judge.{table_rules}
 use Rattle.mps.specs.Routes.{pair_size, pairs_to}
-use Rattle.mps.specs.Answers.{lent_of}
+use Rattle.mps.specs.Answers.{answered}
 use Rattle.mps.specs.Rooms.{too_small, lent_refusal, lent_left}
-use Rattle.mps.specs.declared.Lent.{Lent}
+use Rattle.mps.specs.declared.refusals.Refusal.{Refusal}
 
 -- "bus, device 0 to 31 and pin 0 to 3"
 pub record Slot : Type 0 where
@@ -63,8 +63,8 @@ unfoldable pub slot_refusal : Slot → List ℕ → List ℕ → ℕ
 slot_refusal s t room = lent_refusal (slot_rules s t) (too_small (length (slot_routes_of s t)) room)
 
 -- The count is that of the pairs, as of a route query's.
-unfoldable pub slot_routed : Slot → List ℕ → List ℕ → Lent
-slot_routed s t room = lent_of (slot_refusal s t room) (length (slot_routes_of s t) / pair_size)
+unfoldable pub slot_routed : Slot → List ℕ → List ℕ → Result ℕ Refusal
+slot_routed s t room = answered (slot_refusal s t room) (length (slot_routes_of s t) / pair_size)
 
 unfoldable pub slot_routes_left : Slot → List ℕ → List ℕ → List ℕ
 slot_routes_left s t room = lent_left (slot_refusal s t room) (slot_routes_of s t) room
@@ -94,8 +94,8 @@ unfoldable pub slots_refusal : List ℕ → List ℕ → ℕ
 slots_refusal t room = lent_refusal (table_rules t) (too_small (length (slots_of t)) room)
 
 -- The count is that of the slots.
-unfoldable pub slots_listed : List ℕ → List ℕ → Lent
-slots_listed t room = lent_of (slots_refusal t room) (length (slots_of t) / slot_size)
+unfoldable pub slots_listed : List ℕ → List ℕ → Result ℕ Refusal
+slots_listed t room = answered (slots_refusal t room) (length (slots_of t) / slot_size)
 
 unfoldable pub slots_left : List ℕ → List ℕ → List ℕ
 slots_left t room = lent_left (slots_refusal t room) (slots_of t) room

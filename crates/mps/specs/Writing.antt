@@ -1,5 +1,5 @@
 -- The writer, and the parts of a table. Document 01, "The writer takes .."; MPS 4.2, Table 4-2.
-use Rattle.std.specs.Prelude.{ℕ, ◌+◌, cond, List, [], ◌∷◌, ◌++◌, length, replicate, ltb, eqb}
+use Rattle.std.specs.Prelude.{ℕ, ◌+◌, cond, List, [], ◌∷◌, ◌++◌, length, replicate, ltb, eqb, Result}
 use Rattle.mps.specs.Words.{text, cut, exactly, first}
 use Rattle.mps.specs.Refusals.{Rule, ◌when◌, base_number, extended_number}
 use Rattle.mps.specs.Sums.{sum256, to_store}
@@ -7,12 +7,11 @@ use Rattle.mps.specs.Numbers.{bytes}
 use Rattle.mps.specs.Layout.{spec_revision, part_most, header_size, base_entry_length, base_length, extended_end, base_part, extended_part}
 use Rattle.mps.specs.Layout.{oem_id, product_of, oem_pointer, oem_size, local_apic, reserved43}
 use Rattle.mps.specs.Judge.{table_refusal}
-use Rattle.mps.specs.Answers.{lent_of, parted_of}
+use Rattle.mps.specs.Answers.{answered}
 use Rattle.mps.specs.Rooms.{too_small, lent_refusal, lent_left}
 use Rattle.mps.specs.declared.Fields.{Fields}
 use Rattle.mps.specs.declared.Parted.{Parted}
-use Rattle.mps.specs.declared.Parted.TheVariants.{Parts as Parted-as-Parts}
-use Rattle.mps.specs.declared.Lent.{Lent}
+use Rattle.mps.specs.declared.refusals.Refusal.{Refusal}
 
 -- "header fields (OEM ID, product, OEM pointer and size, local APIC address, byte 43), base entries and extended entries,
 -- both as bytes". `Fields` is the struct of src/lib.rt: eight bytes, twelve bytes, numbers.
@@ -31,8 +30,8 @@ unfoldable pub parts_of : List ℕ → Parts
 parts_of t = record { fields = fields_of t; base = base_part t; extended = extended_part t }
 
 -- What is answered of a table's parts: where its entries end, or the number that it is refused with.
-unfoldable pub parted : List ℕ → Parted
-parted t = parted_of (table_refusal t) (Parted-as-Parts (base_length t) (extended_end t))
+unfoldable pub parted : List ℕ → Result Parted Refusal
+parted t = answered (table_refusal t) (record { base = base_length t; end = extended_end t })
 
 -- ---- The image: "It works out lengths, count and checksums"; "the revision it writes is 4"
 
@@ -85,8 +84,8 @@ unfoldable pub write_refusal : Parts → List ℕ → ℕ
 write_refusal p room = first (early_refusal p room) (table_refusal (image p))
 
 -- How many bytes stand in the room.
-unfoldable pub written : Parts → List ℕ → Lent
-written p room = lent_of (write_refusal p room) (image_size p)
+unfoldable pub written : Parts → List ℕ → Result ℕ Refusal
+written p room = answered (write_refusal p room) (image_size p)
 
 -- ".. and a refusal leaves its bytes zero and the rest unchanged."
 unfoldable pub finished : Parts → List ℕ

@@ -1,6 +1,6 @@
 -- The base entries: their walk as one of Walks.antt, one entry by itself, what the loops meet at a place, and what an
 -- accepted walk tells of every entry. Assumes nothing.
-use Prim.Native.Nat.{ℕ, zero, suc, ◌+◌, ◌-◌, ◌*◌, ◌/◌, ◌≤◌, ◌<◌}
+use Prim.Native.Nat.{ℕ, suc, ◌+◌, ◌-◌, ◌*◌, ◌/◌, ◌≤◌, ◌<◌}
 use mathlib.Core.Path.{◌≡◌, refl, ap, sym, ◌∙◌}
 use mathlib.Core.Bool.{Bool, true, false, cond}
 use mathlib.Core.List.{List, [], ◌∷◌}
@@ -17,7 +17,12 @@ use Rattle.mps.specs.Table.{entry_fault, walk_from}
 use Rattle.mps.specs.Sections.{span}
 use Rattle.laws.proofs.Tests.{and_parts}
 use Rattle.laws.proofs.Cut.{cut_next, cut_done}
-use Rattle.sections.specs.declared.BaseSections.TheVariants.{Ascending, Faulty}
+use Rattle.std.specs.Prelude.{Ok, Err}
+use Rattle.mps.specs.Reasons.{refusal_numbered}
+use Rattle.mps.specs.declared.refusals.Refusal.{Refusal}
+use Rattle.mps.specs.declared.refusals.Refusal.TheVariants.{EntryCut}
+use Rattle.laws.proofs.Refusals.{first_some}
+use Rattle.laws.proofs.Answers.{answered_err}
 use Rattle.runs.specs.Runs.{size_of, bytes, Ran}
 use Rattle.sections.specs.Base.{base_entries_in, base_fault, base_sections, base_own}
 use Rattle.runs.proofs.Pieces.{size_some, first_there, every_cut}
@@ -268,10 +273,13 @@ module _ (s : List ℕ) (count buses apics interrupts locals end : ℕ) (at : Ru
       ∙ ap (λ (es : List Entry). walk base_own 11 5 es) (sym at.five.entries)
       ∙ sym (base_walk 5 (base_entries_in (drop end s)))
 
-  pub base_faulty : (x : ℕ) → end < length s → x ≡ walk_from 5 (base_entries_in (drop end s)) → Faulty x ≡ base_sections s count
+  pub base_faulty : (r : Refusal) → end < length s → r ≡ refusal_numbered (walk_from 5 (base_entries_in (drop end s))) → Err r ≡ base_sections s count
   unfolding base_sections base_fault
-  base_faulty zero h e = absurd (walk_some s end h (sym e))
-  base_faulty (suc x) h e = rw (walk_end, ← e)
+  base_faulty r h e =
+      let n = walk_from 5 (base_entries_in (drop end s)) in
+      let some : n ≡ 0 → ⊥ = walk_some s end h in
+      let here : base_fault s count ≡ n = rw walk_end (first_some n _ some) in
+      answered_err (base_fault s count) _ (λ z. some (sym here ∙ z)) (e ∙ ap refusal_numbered (sym here))
 
   module _ (h : length s ≤ end) where
     walk_whole : walk_from 0 (base_entries_in s) ≡ 0
@@ -291,11 +299,12 @@ module _ (s : List ℕ) (count buses apics interrupts locals end : ℕ) (at : Ru
         in
         omega (arith, b, l, n.number, n.first_bytes, n.all_bytes)
 
-    pub base_miscounted : (buses / 20 + (length s - buses) / 8 ≡ count → ⊥) → Faulty 11 ≡ base_sections s count
-    unfolding base_sections base_fault
+    pub base_miscounted : (buses / 20 + (length s - buses) / 8 ≡ count → ⊥) → Err EntryCut ≡ base_sections s count
+    unfolding base_sections base_fault refusal_numbered
     base_miscounted d = rw (walk_whole, count_is, ne_eqb (buses / 20 + (length s - buses) / 8) count d)
 
-    pub base_sound : buses / 20 + (length s - buses) / 8 ≡ count → Ascending buses apics interrupts locals ≡ base_sections s count
+    pub base_sound : buses / 20 + (length s - buses) / 8 ≡ count
+        → Ok (record { buses = buses; ioapics = apics; interrupts = interrupts; locals = locals }) ≡ base_sections s count
     unfolding base_sections base_fault
     base_sound c =
         rw (

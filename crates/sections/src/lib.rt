@@ -9,23 +9,21 @@
 #![tactic(auto)]
 
 ghost use Rattle.std.specs.Prelude.{◌≡◌, ◌≤◌, ◌<◌, length, drop};
+ghost use Rattle.mps.specs.Reasons.{refusal_numbered};
 ghost use Rattle.mps.specs.Layout.{last_base_type, base_entry_length};
 ghost use Rattle.mps.specs.Table.{walk_from};
 ghost use Rattle.runs.specs.Runs.{Ran};
 ghost use Rattle.sections.specs.Base.{base_sections, base_entries_in, base_own};
 
-use mps::layout;
+use mps::{Refusal, layout};
 
 // Where the entries of each type begin, from the first byte behind the header; processors begin there.
 #[derive(Clone, Copy)]
-pub enum BaseSections {
-    Ascending {
-        buses: usize,
-        ioapics: usize,
-        interrupts: usize,
-        locals: usize,
-    },
-    Faulty(u8),
+pub struct BaseSections {
+    pub buses: usize,
+    pub ioapics: usize,
+    pub interrupts: usize,
+    pub locals: usize,
 }
 
 // The place behind the whole base entries of one type that stand from `at` on.
@@ -45,23 +43,23 @@ fn run(s: &[u8], at: usize, kind: u8) -> usize
     place
 }
 
-// The number of the entry at a place where no run goes on: behind all five types each entry is faulty.
-fn fault(s: &[u8], at: usize) -> u8
+// What is wrong with the entry at a place where no run goes on: behind all five types each entry is faulty.
+fn fault(s: &[u8], at: usize) -> Refusal
     requires { at < length s.now }
-    ensures { result ≡ walk_from 5 (base_entries_in (drop at s.now)) }
+    ensures { result ≡ refusal_numbered (walk_from 5 (base_entries_in (drop at s.now))) }
 {
     let kind = s[at];
     if layout::LOCAL_INTERRUPT_TYPE < kind {
-        return 10;
+        return Refusal::EntryType;
     }
     if s.len() - at < runs::size_of(kind) {
-        return 11;
+        return Refusal::EntryCut;
     }
-    12
+    Refusal::EntryOrder
 }
 
 // `s` are the bytes behind the header up to the base end, `count` is the header's entry count.
-pub fn base(s: &[u8], count: usize) -> BaseSections
+pub fn base(s: &[u8], count: usize) -> Result<BaseSections, Refusal>
     ensures { result ≡ base_sections s.now count }
 {
     let buses = run(s, 0, layout::PROCESSOR_TYPE);
@@ -70,16 +68,16 @@ pub fn base(s: &[u8], count: usize) -> BaseSections
     let locals = run(s, interrupts, layout::IO_INTERRUPT_TYPE);
     let end = run(s, locals, layout::LOCAL_INTERRUPT_TYPE);
     if end < s.len() {
-        return BaseSections::Faulty(fault(s, end));
+        return Err(fault(s, end));
     }
     // Every type but the first has entries of 8 bytes, so nothing was counted on the way.
     if buses / layout::PROCESSOR_SIZE + (s.len() - buses) / layout::ENTRY_SIZE != count {
-        return BaseSections::Faulty(11);
+        return Err(Refusal::EntryCut);
     }
-    BaseSections::Ascending {
-        buses: buses,
-        ioapics: ioapics,
-        interrupts: interrupts,
-        locals: locals,
-    }
+    Ok(BaseSections {
+        buses,
+        ioapics,
+        interrupts,
+        locals,
+    })
 }

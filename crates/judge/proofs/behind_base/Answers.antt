@@ -1,11 +1,14 @@
 -- `behind_base` meets its contract: refused with 13, else by what is behind the walks. That the places fit follows from those
 -- of the definition, `more_passed`.
+use Prim.Native.Nat.{◌+◌}
 use mathlib.Core.Path.{sym, ◌∙◌}
+use Rattle.std.proofs.lemmas.Result.{err_from_is_err_and}
 use native.Mathlib.Omega.{arith}
 use Rattle.header.proofs.Laws.{header_passed, extended_fits}
+use Rattle.judge.specs.Stages.{Ready}
 use Rattle.judge.proofs.Verdict.{part_refused, more_refused, more_passed}
 use Rattle.judge.proofs.behind_base.Goals as goal
-use Rattle.judge.proofs.behind_base.Goals.{In-Ascending}
+use Rattle.judge.proofs.behind_base.Goals.{In_ok-walked}
 
 pub returns-then-wrong_extended : goal.returns-then-wrong_extended
 returns-then-wrong_extended c = part_refused _ c.requires c.wrong_extended.ensures c.if-wrong_extended.true
@@ -30,33 +33,39 @@ slice_bounds-extended-end c =
     let f = extended_fits _ (sym c.wrong_extended.ensures ∙ c.if-wrong_extended.false) in
     omega (arith, g.mappings, h.inside, f)
 
-pub behind_walks-requires : goal.behind_walks-requires
-behind_walks-requires c =
+pub returns-in_err-walked : goal.returns-in_err-walked
+returns-in_err-walked c =
+    let p = err_from_is_err_and c.from_residual.result c.from_residual.ensures.1 in
     let g = c.requires in
-    let e = c.wrong_extended.ensures in
-    let s = c.extended.ensures in
-    let f = c.extended-walked.ensures in
-    let a = c.in-Ascending.is in
-    let bytes = c.type_inv.t in
-    more_passed _ g e c.if-wrong_extended.false g.mappings s f a (λ i. omega (arith, bytes i))
+    rw (p.1, p.2)
+    (more_refused _ g c.wrong_extended.ensures c.if-wrong_extended.false g.mappings c.extended.ensures c.extended-2.ensures
+    c.ok_or.ensures.value c.in_err-walked.was)
+
+ready : (c : In_ok-walked)
+    → Ready c.args.t.now (record {
+      buses = c.args.p.buses;
+      ioapics = c.args.p.ioapics;
+      interrupts = c.args.p.interrupts;
+      locals = c.args.p.locals;
+      mappings = c.args.p.mappings;
+      links = c.args.p.mappings + c.in_ok-walked.walked.links;
+      modifiers = c.args.p.mappings + c.in_ok-walked.walked.modifiers;
+      others = c.args.p.mappings + c.in_ok-walked.walked.others;
+      end = c.args.p.mappings + c.extended.result;
+    })
+ready c =
+    let g = c.requires in
+    more_passed _ g c.wrong_extended.ensures c.if-wrong_extended.false g.mappings c.extended.ensures c.extended-2.ensures
+    c.ok_or.ensures.value c.in_ok-walked.was (λ i. omega (arith, c.type_inv.t i))
+
+pub behind_walks-requires : goal.behind_walks-requires
+behind_walks-requires c = ready (goal.at.behind_walks-requires c).In_ok-walked
 
 pub overflow_add-base : goal.overflow_add-base
-overflow_add-base c =
-    let r = behind_walks-requires (goal.at.overflow_add-base c).In-Ascending in
-    omega (arith, r.placed)
+overflow_add-base c = let r = ready (goal.at.overflow_add-base c).In_ok-walked in omega (arith, r.placed)
 
-pub overflow_add-base-in-Ascending : goal.overflow_add-base-in-Ascending
-overflow_add-base-in-Ascending c =
-    let r = behind_walks-requires (goal.at.overflow_add-base-in-Ascending c).In-Ascending in
-    omega (arith, r.placed)
+pub overflow_add-base-2 : goal.overflow_add-base-2
+overflow_add-base-2 c = let r = ready (goal.at.overflow_add-base-2 c).In_ok-walked in omega (arith, r.placed)
 
-pub overflow_add-base-in-Ascending-2 : goal.overflow_add-base-in-Ascending-2
-overflow_add-base-in-Ascending-2 c =
-    let r = behind_walks-requires (goal.at.overflow_add-base-in-Ascending-2 c).In-Ascending in
-    omega (arith, r.placed)
-
-pub returns-in-Faulty : goal.returns-in-Faulty
-returns-in-Faulty c =
-    let g = c.requires in
-    let e = c.wrong_extended.ensures in
-    more_refused _ g e c.if-wrong_extended.false g.mappings c.extended.ensures c.extended-walked.ensures c.in-Faulty.is
+pub overflow_add-base-3 : goal.overflow_add-base-3
+overflow_add-base-3 c = let r = ready (goal.at.overflow_add-base-3 c).In_ok-walked in omega (arith, r.placed)

@@ -2,14 +2,17 @@
 use mathlib.Core.Path.{◌∙◌}
 use native.Mathlib.Omega.{arith}
 use Rattle.judge.proofs.Ways.{by_local_apic, by_processor, past_14, roll_14}
+use Rattle.mps.specs.Reasons.{refusal_numbered}
+use Rattle.laws.proofs.Answers.{told}
 use Rattle.judge.proofs.from_14.Goals as goal
 
 pub returns-then-le32-ne0 : goal.returns-then-le32-ne0
-returns-then-le32-ne0 c = by_local_apic c.requires c.le32.ensures c.if-le32-ne0.true
+unfolding refusal_numbered
+returns-then-le32-ne0 c = told tt (by_local_apic c.requires c.le32.ensures c.if-le32-ne0.true)
 
 pub returns-then-wrong_processors : goal.returns-then-wrong_processors
-returns-then-wrong_processors c =
-    by_processor c.requires c.le32.ensures c.put.ensures c.wrong_processors.ensures.value c.if-wrong_processors.true
+unfolding refusal_numbered
+returns-then-wrong_processors c = told tt (by_processor c.requires c.le32.ensures c.put.ensures c.wrong_processors.ensures.value c.if-wrong_processors.true)
 
 pub from_15-requires : goal.from_15-requires
 from_15-requires c =
@@ -17,10 +20,11 @@ from_15-requires c =
     let w = c.wrong_processors.ensures in record { placed = h; rolled = roll_14 h c.le32.ensures c.put.ensures w.value c.if-wrong_processors.false w.roll_after }
 
 pub returns : goal.returns
+unfolding refusal_numbered
 returns c =
     let w = c.wrong_processors.ensures in
     c.from_15.ensures
-    ∙ past_14 c.requires c.le32.ensures c.put.ensures w.value (omega arith) c.if-wrong_processors.false
+    ∙ told tt (past_14 c.requires c.le32.ensures c.put.ensures w.value (omega arith) c.if-wrong_processors.false)
 
 pub slice_bounds-wrong_processors-count : goal.slice_bounds-wrong_processors-count
 slice_bounds-wrong_processors-count c = omega arith

@@ -2,10 +2,13 @@
 use mathlib.Core.Path.{◌∙◌}
 use native.Mathlib.Omega.{arith}
 use Rattle.judge.proofs.Ways.{by_bus, past_15, roll_15}
+use Rattle.mps.specs.Reasons.{refusal_numbered}
+use Rattle.laws.proofs.Answers.{told}
 use Rattle.judge.proofs.from_15.Goals as goal
 
 pub returns-then-wrong : goal.returns-then-wrong
-returns-then-wrong c = let h = c.requires in by_bus h.placed h.rolled c.wrong.ensures.value c.if-wrong.true
+unfolding refusal_numbered
+returns-then-wrong c = let h = c.requires in told tt (by_bus h.placed h.rolled c.wrong.ensures.value c.if-wrong.true)
 
 pub from_16-requires : goal.from_16-requires
 from_16-requires c =
@@ -13,9 +16,10 @@ from_16-requires c =
     let w = c.wrong.ensures in record { placed = h.placed; rolled = roll_15 h.placed h.rolled w.value c.if-wrong.false w.roll_after }
 
 pub returns : goal.returns
+unfolding refusal_numbered
 returns c =
     let h = c.requires in
-    c.from_16.ensures ∙ past_15 h.placed h.rolled c.wrong.ensures.value c.if-wrong.false
+    c.from_16.ensures ∙ told tt (past_15 h.placed h.rolled c.wrong.ensures.value c.if-wrong.false)
 
 pub slice_bounds-wrong-count : goal.slice_bounds-wrong-count
 slice_bounds-wrong-count c = omega arith

@@ -2,21 +2,25 @@
 use mathlib.Core.Path.{◌∙◌}
 use native.Mathlib.Omega.{arith}
 use Rattle.judge.proofs.Ways.{by_interrupt, by_local, past_17}
+use Rattle.mps.specs.Reasons.{refusal_numbered}
+use Rattle.laws.proofs.Answers.{told}
 use Rattle.judge.proofs.from_17.Goals as goal
 
 pub returns-then-wrong_io : goal.returns-then-wrong_io
-returns-then-wrong_io c = let h = c.requires in by_interrupt h.placed h.named c.wrong_io.ensures c.if-wrong_io.true
+unfolding refusal_numbered
+returns-then-wrong_io c = let h = c.requires in told tt (by_interrupt h.placed h.named c.wrong_io.ensures c.if-wrong_io.true)
 
 pub returns-then-wrong_local : goal.returns-then-wrong_local
+unfolding refusal_numbered
 returns-then-wrong_local c =
-    let h = c.requires in
-    by_local h.placed h.named c.wrong_io.ensures c.wrong_local.ensures c.if-wrong_local.true
+    let h = c.requires in told tt (by_local h.placed h.named c.wrong_io.ensures c.wrong_local.ensures c.if-wrong_local.true)
 
 pub returns : goal.returns
+unfolding refusal_numbered
 returns c =
     let h = c.requires in
     c.from_18.ensures
-    ∙ past_17 h.placed h.named c.wrong_io.ensures c.wrong_local.ensures c.if-wrong_io.false c.if-wrong_local.false
+    ∙ told tt (past_17 h.placed h.named c.wrong_io.ensures c.wrong_local.ensures c.if-wrong_io.false c.if-wrong_local.false)
 
 pub slice_bounds-wrong_io-count : goal.slice_bounds-wrong_io-count
 slice_bounds-wrong_io-count c = omega arith
