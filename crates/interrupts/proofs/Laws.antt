@@ -1,35 +1,17 @@
--- Laws of `wrong_interrupt_in`: at a place of a slice, and that it is the rule of mps. Assumes nothing.
-use Prim.Native.Nat.{ℕ, ◌+◌, ◌/◌, ◌%◌}
+-- Laws of `wrong_interrupt_in`: that it is the rule of mps. Assumes nothing.
+use Prim.Native.Nat.{ℕ}
 use mathlib.Core.Path.{◌≡◌, ◌∙◌}
-use mathlib.Core.Bool.{Bool, not, ◌||◌, or-false}
+use mathlib.Core.Bool.{◌||◌, or-false}
 use mathlib.Core.List.{List}
 use native.Mathlib.Omega.{arith}
 use lib.Dec.{ltb, eqb}
-use lib.ListN.{get_or, take, drop}
 use borrow.Author.Tests.{le-ltb}
 use Rattle.mps.specs.Words.{among}
 use Rattle.mps.specs.Layout.{Entry, bus_type, everyone, input, source_bus, destination}
 use Rattle.mps.specs.Rules.{ids_of, is_listed, wrong_interrupt, wrong_input}
-use Rattle.laws.proofs.Rows.{row_byte}
 use Rattle.laws.proofs.Small.{Bytes}
 use Rattle.roll.specs.Roll.{marked, bus_bit, Shows}
 use Rattle.interrupts.specs.Interrupts.{wrong_interrupt_in}
-
--- From the bytes of a slice and what the roll has of two of them.
-pub interrupt_at :
-    (roll : List ℕ) (k most : ℕ) (s : List ℕ) (at : ℕ) {b t : Bool}
-    → b ≡ marked 3 roll (get_or s (at + 4) 0) → t ≡ marked k roll (get_or s (at + 6) 0)
-    → (ltb 3 (get_or s (at + 1) 0)
-    || eqb (get_or s (at + 2) 0 % 4) 2
-    || eqb (get_or s (at + 2) 0 / 4 % 4) 2
-    || not b
-    || not t
-    || ltb most (get_or s (at + 7) 0))
-    ≡ wrong_interrupt_in roll k most (take 8 (drop at s))
-unfolding wrong_interrupt_in
-interrupt_at roll k most s at e f =
-    let row = row_byte 8 s at in
-    rw (e, f, row 1 (omega arith), row 2 (omega arith), row 4 (omega arith), row 6 (omega arith), row 7 (omega arith))
 
 -- ---- The rule of mps, of an entry whose bus and destination the roll has as the rule does, whatever the highest input is
 

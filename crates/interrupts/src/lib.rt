@@ -15,6 +15,7 @@ use mps::layout;
 
 // Every test is made, by `|`: in a table that is accepted none of them is so, and nothing would be saved by stopping at
 // the first. k is the bit of those that a destination may name.
+#[tactic(auto, unfolding(crate::specs::Interrupts::wrong_interrupt_in))]
 fn wrong_one(e: &[u8], roll: &[u8; 256], k: u8, most: u8) -> bool
     requires { length e.now ≡ entry_size }
     ensures { result ≡ wrong_interrupt_in roll.now (k % 8) most e.now }

@@ -1,16 +1,12 @@
--- Laws of `wrong_mapping_in` and `wrong_modifier_in`: at a place of a slice, and that they are the rules of mps. Assumes nothing.
-use Rattle.std.proofs.Common.{◌≡◌, ℕ, ◌+◌, ◌-◌, ◌%◌, ◌^◌, ◌<◌, Bool, true, not, ◌&&◌, ◌||◌, ltb, List, get_or, take, drop, arith, ltb-true, lt-ltb}
-use Rattle.mps.specs.Words.{among, part}
-use Rattle.mps.specs.Numbers.{le}
+-- Laws of `wrong_mapping_in` and `wrong_modifier_in`: where a range ends, and that they are the rules of mps. Assumes nothing.
+use Rattle.std.proofs.Common.{◌≡◌, ℕ, ◌+◌, ◌%◌, ◌^◌, ◌<◌, true, ◌&&◌, ltb, List, arith, ltb-true, lt-ltb}
+use Rattle.mps.specs.Words.{among}
 use Rattle.mps.specs.Layout.{Entry, space_end, bus_type, extended_bus}
 use Rattle.mps.specs.Rules.{ids_of, is_listed, wrong_mapping, wrong_modifier}
 use Rattle.laws.proofs.Tests.{and_parts, same_test}
-use Rattle.laws.proofs.Rows.{row_byte}
 use Rattle.laws.proofs.Small.{Bytes}
-use Rattle.roll.specs.Roll.{marked, bus_bit, Shows}
+use Rattle.roll.specs.Roll.{bus_bit, Shows}
 use Rattle.spaces.specs.Spaces.{wrong_mapping_in, wrong_modifier_in}
-
--- ---- At a place of a slice
 
 -- A sum of two words is over 2^64 where it wraps, and not to 0.
 pub past_end_is :
@@ -27,24 +23,6 @@ past_end_is base size end h k e = same_test (ltb end base && ltb 0 end) (ltb spa
     wraps t =
         let o = ltb-true space_end (base + size) t in
         rw (lt-ltb end base (omega (arith, e, o, h, k)), lt-ltb 0 end (omega (arith, e, o, h, k)))
-
-module _ (roll : List ℕ) (s : List ℕ) (at : ℕ) {b : Bool} (e : b ≡ marked 3 roll (get_or s (at + 2) 0)) where
-  -- The row that is cut out of the slice is n bytes long.
-  width : (n : ℕ) → at + n - at ≡ n
-  width n = omega arith
-
-  pub map_at :
-      {x y : ℕ} {p : Bool}
-      → x ≡ le 8 (part at (at + 20) s) 4 → y ≡ le 8 (part at (at + 20) s) 12 → p ≡ ltb space_end (x + y)
-      → (not b || ltb 2 (get_or s (at + 3) 0) || p) ≡ wrong_mapping_in roll (take 20 (drop at s))
-  unfolding wrong_mapping_in
-  map_at f g h =
-      rw (e, h, f, g, width 20, row_byte 20 s at 2 (omega arith), row_byte 20 s at 3 (omega arith))
-
-  pub mod_at :
-      {l : ℕ} → l ≡ le 4 (part at (at + 8) s) 4 → (not b || ltb 1 l) ≡ wrong_modifier_in roll (take 8 (drop at s))
-  unfolding wrong_modifier_in
-  mod_at f = rw (e, f, width 8, row_byte 8 s at 2 (omega arith))
 
 -- ---- The rules of mps, of an entry whose bytes are bytes, where the roll has the listed buses
 

@@ -1,20 +1,6 @@
--- The loop looks for a wrong entry: `Seeks`, with `seeks_stop`, `seeks_next` and `seeks_done`.
-use Rattle.std.proofs.Common.{refl, arith}
-use Rattle.laws.proofs.Rows.{seeks_done, seeks_stop, seeks_next}
+use Rattle.std.proofs.Common.{arith, rules}
+use Rattle.laws.proofs.Rows.{any_of_pieces}
 use Rattle.spaces.proofs.wrong_modifiers.Goals as goal
 
-pub loop-at-init : goal.loop-at-init
-loop-at-init c = (refl, omega arith)
-
-pub returns-then-wrong_modifier : goal.returns-then-wrong_modifier
-returns-then-wrong_modifier c =
-    let l = c.loop-at in
-    seeks_stop _ 8 _ l.at l.invariant (omega arith) (omega arith) c.wrong_modifier.ensures c.if-wrong_modifier.true
-
-pub loop-at-preserved : goal.loop-at-preserved
-loop-at-preserved c =
-    let l = c.loop-at in
-    seeks_next _ 8 _ l.at l.invariant (omega arith) (omega arith) c.wrong_modifier.ensures c.if-wrong_modifier.false
-
 pub returns : goal.returns
-returns c = seeks_done _ 8 _ c.loop-at.at c.loop-at.invariant (omega arith)
+returns c = let k = c.chunks_exact.ensures in any_of_pieces _ (omega arith) (λ x b q l w. search rules) c.any.ensures.ran k.size k.rest
