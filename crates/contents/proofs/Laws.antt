@@ -14,6 +14,7 @@ use Rattle.mps.specs.declared.Region.{Region}
 use Rattle.laws.proofs.Tests.{whether, and_parts}
 use Rattle.laws.proofs.Lists.{keep_in, keep_out}
 use Rattle.regions.specs.Regions.{blank, eight, first_of_kind}
+use Rattle.regions.specs.Walk.{listed}
 use Rattle.regions.proofs.Coded.{holding_blank}
 use Rattle.regions.proofs.Firsts.{first_all}
 use Rattle.regions.proofs.Eight.{first_eight}
@@ -45,6 +46,11 @@ sound_count d e = let r = sound_parts d e in omega (arith, regions_length d, r.c
 -- Its rows stand inside it.
 pub sound_rows : (d : List ℕ) → sound_dump d ≡ true → (region_count d ≤ regions_most) × (contents_end d ≤ length d)
 sound_rows d e = let r = sound_parts d e in (r.count, omega (arith, r.ends))
+
+-- So they all are listed.
+pub sound_listed : (d : List ℕ) → sound_dump d ≡ true → listed d ≡ regions d
+unfolding listed
+sound_listed d e = rw (le-leb (contents_end d) (length d) (sound_rows d e).1)
 
 pub sound_kind :
     (d : List ℕ) (k : ℕ) → sound_dump d ≡ true → 1 ≤ k → k ≤ 3

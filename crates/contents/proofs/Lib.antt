@@ -1,4 +1,3 @@
-pub mod Coded
 pub mod Once
 pub mod Pairs
 pub mod Bodies

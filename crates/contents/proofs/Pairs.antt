@@ -3,6 +3,7 @@ use Prim.Native.Nat.{ℕ, ◌+◌}
 use mathlib.Core.Path.{◌≡◌, refl}
 use mathlib.Core.Bool.{Bool, true, false, not, cond, ◌||◌, ◌&&◌}
 use mathlib.Core.List.{List, [], ◌∷◌}
+use Rattle.std.specs.Prelude.{None, Some}
 use native.Mathlib.Omega.{arith}
 use Rattle.mps.specs.Words.{any, every, each}
 use Rattle.mps.specs.Sums.{total}
@@ -38,16 +39,16 @@ rules_next r rs =
     rw (any_either (share r) (of_kind r.kind) (once_only r) rs, twice_first r rs, ← both)
     (rules_more (sound_region r) (any (share r) rs || k) (every sound_region rs) (overlap rs || kind_twice rs))
 
-cond_and : (a b : Bool) (x y : ℕ) → cond a (cond b x y) y ≡ cond (a && b) x y
+cond_and : {A : Type 0} (a b : Bool) (x y : A) → cond a (cond b x y) y ≡ cond (a && b) x y
 cond_and true b x y = refl
 cond_and false b x y = refl
 
 -- The last body's end is told just where the rules are kept.
-pub fitted_is : (end : ℕ) (rs : List Region) → fitted end rs ≡ cond (rules rs) (end + total (each size_of rs)) 0
+pub fitted_is : (end : ℕ) (rs : List Region) → fitted end rs ≡ cond (rules rs) (Some (end + total (each size_of rs))) None
 unfolding fitted every overlap each total
-fitted_is end [] = rw twice_none (omega arith)
+fitted_is end [] = let e : end + total [] ≡ end = omega arith in rw (twice_none, e)
 fitted_is end (r ∷ rs) =
     let first = sound_region r && not (any (clashing r) rs) in
     let last = end + r.size + total (each size_of rs) in
     let e : last ≡ end + (r.size + total (each size_of rs)) = omega arith in
-    rw (fitted, fitted_is (end + r.size) rs, cond_and first (rules rs) last 0, rules_next r rs, e)
+    rw (fitted, fitted_is (end + r.size) rs, cond_and first (rules rs) (Some last) None, rules_next r rs, e)

@@ -1,7 +1,7 @@
 -- What a caller may use of the dump reader's answers. Assumes nothing.
-use Prim.Native.Nat.{ℕ, zero, suc, ◌-◌, ◌≤◌, ◌<◌}
+use Prim.Native.Nat.{ℕ, ◌-◌, ◌≤◌, ◌<◌}
 use mathlib.Core.Path.{◌≡◌, refl, ap, sym, ◌∙◌}
-use mathlib.Core.Bool.{Bool, true, false, not, true≢false}
+use mathlib.Core.Bool.{true, false, not}
 use mathlib.Core.List.{List}
 use native.Mathlib.Omega.{arith}
 use lib.ListN.{length, get_or}
@@ -9,46 +9,29 @@ use borrow.Author.Tests.{not-false}
 use Rattle.mps.specs.Words.{part, among, each, only, first}
 use Rattle.mps.specs.Layout.{dump_most, feature1}
 use Rattle.mps.specs.Refusals.{refusal}
-use Rattle.mps.specs.Answers.{held_of, held_numbers}
+use Rattle.std.specs.Prelude.{Ok, Err}
+use Rattle.mps.specs.Reasons.{refusal_numbered}
+use Rattle.mps.specs.Answers.{held_values}
+use Rattle.mps.specs.declared.refusals.Refusal.{Refusal}
+use Rattle.laws.proofs.Answers.{answered_ok, answered_err, given_ok, given_err}
 use Rattle.mps.specs.Dump.{sound_dump}
 use Rattle.mps.specs.Pointer.{pointer, pointer_bytes, imcr_of, is_default, table_address, table_start, table_end, table_in}
 use Rattle.mps.specs.Judge.{pointer_rules, table_rules, dump_rules, told, pointed, held, dump_refusal, table_refusal}
 use Rattle.mps.specs.declared.Held.{Held}
-use Rattle.mps.specs.declared.Held.TheVariants.{Default, Table, Refused}
+use Rattle.mps.specs.declared.Held.TheVariants.{Default, Table}
 use Rattle.laws.proofs.Tests.{whether}
 use Rattle.laws.proofs.Refusals.{first_some, first_none, refusal_append, refusal_pass, refusal_end}
 use Rattle.contents.proofs.Rules.{sound_parts}
 use Rattle.contents.proofs.Laws.{holding_inside, holding_shorter}
 
--- ---- Enums taken apart
+-- ---- What is held, taken apart
 
-is_refused : Held → Bool
-is_refused (Refused n) = true
-is_refused (Default n b) = false
-is_refused (Table p b a s e) = false
-
--- The value at place k of an answer's numbers, the refusal's number at 0.
+-- The value at place k of what is held; a default has two values and a table five.
 value_at : ℕ → Held → ℕ
-value_at k r = get_or (held_numbers r) k 0
+value_at k h = get_or (held_values h) k 0
 
--- A default has two values and a table five.
 value_count : Held → ℕ
-value_count r = length (held_numbers r)
-
-told_not : (d : List ℕ) → is_refused (told d) ≡ false
-unfolding told is_refused
-told_not d = whether (is_default d) (λ t. rw t) (λ f. rw f)
-
--- An answer that is no refusal has no number, and one that is has its own.
-not_refused : (n : ℕ) {h r : Held} → held_of n h ≡ r → is_refused r ≡ false → (n ≡ 0) × (h ≡ r)
-unfolding is_refused
-not_refused zero e f = (refl, e)
-not_refused (suc n) e f = absurd (true≢false (ap is_refused e ∙ f))
-
-refused_number : (k : ℕ) (h : Held) {n : ℕ} → is_refused h ≡ false → held_of k h ≡ Refused n → (k ≡ n) × (0 < n)
-unfolding is_refused value_at
-refused_number zero h f e = absurd (true≢false (sym (ap is_refused e) ∙ f))
-refused_number (suc k) h f e = let q = ap (value_at 0) e in (q, omega (arith, q))
+value_count h = length (held_values h)
 
 told_default : (d : List ℕ) → is_default d ≡ true → told d ≡ Default (feature1 (pointer_bytes d)) (imcr_of d)
 unfolding told
@@ -74,23 +57,30 @@ held_none d e = (first_none (refusal (pointer_rules d)) _ (sym (dump_number d) �
 
 -- ---- What the pointer's answer says of the dump
 
-pub pointed_refused : (d : List ℕ) (n : ℕ) → pointed d ≡ Refused n → (dump_refusal d ≡ n) × (0 < n)
+-- A refusal is the dump's, whose number is not 0.
+pub pointed_refused : (d : List ℕ) {r : Refusal} → pointed d ≡ Err r → (dump_refusal d ≡ 0 → ⊥) × (r ≡ refusal_numbered (dump_refusal d))
 unfolding pointed
-pointed_refused d n e =
-    let q = refused_number (refusal (pointer_rules d)) (told d) (told_not d) e in
-    (dump_number d ∙ first_some (refusal (pointer_rules d)) _ (λ z. omega (arith, q, z)) ∙ q.0, q.1)
+pointed_refused d e =
+    let q = given_err (refusal (pointer_rules d)) (told d) (sym e) in
+    let number = dump_number d ∙ first_some (refusal (pointer_rules d)) _ q.0 in
+    (λ z. q.0 (sym number ∙ z), rw number q.1)
+
+-- What is told is told of a dump that has passed 1 to 4.
+pointed_told : (d : List ℕ) {h : Held} → pointed d ≡ Ok h → (refusal (pointer_rules d) ≡ 0) × (h ≡ told d)
+unfolding pointed
+pointed_told d e = given_ok (refusal (pointer_rules d)) (told d) (sym e)
 
 pub pointed_default :
-    (d : List ℕ) (n b : ℕ) → pointed d ≡ Default n b
+    (d : List ℕ) (n b : ℕ) → pointed d ≡ Ok (Default n b)
     → (dump_refusal d ≡ 0) × (is_default d ≡ true) × (n ≡ feature1 (pointer_bytes d)) × (b ≡ imcr_of d)
-unfolding pointed is_refused value_at value_count
+unfolding value_at value_count
 pointed_default d n b e =
-    let q = not_refused (refusal (pointer_rules d)) e refl in
+    let q = pointed_told d e in
     whether (is_default d)
     (λ t.
-    let same = sym (told_default d t) ∙ q.1 in
-    (dump_number d ∙ rw (q.0, t) refusal_end, t, sym (ap (value_at 1) same), sym (ap (value_at 2) same)))
-    (λ f. absurd (omega (arith, ap value_count (sym (told_table d f) ∙ q.1))))
+    let same = q.1 ∙ told_default d t in
+    (dump_number d ∙ rw (q.0, t) refusal_end, t, ap (value_at 0) same, ap (value_at 1) same))
+    (λ f. absurd (omega (arith, ap value_count (q.1 ∙ told_table d f))))
 
 -- A pointer that names a table: the table is the dump's bytes from s to e, and what it is refused with the dump is.
 pub record Pointed (d : List ℕ) (p b a s e : ℕ) : Type 0 where
@@ -122,23 +112,23 @@ pub passed_sound : (d : List ℕ) → refusal (pointer_rules d) ≡ 0 → sound_
 unfolding pointer_rules
 passed_sound d e = not-false (sound_dump d) (refusal_pass 1 (not (sound_dump d)) _ (omega arith) e).0
 
-pub pointed_table : (d : List ℕ) (p b a s e : ℕ) → pointed d ≡ Table p b a s e → Pointed d p b a s e
-unfolding pointed is_refused value_at value_count table_in table_refusal
+pub pointed_table : (d : List ℕ) (p b a s e : ℕ) → pointed d ≡ Ok (Table p b a s e) → Pointed d p b a s e
+unfolding value_at value_count table_in table_refusal
 pointed_table d p b a s e w =
-    let q = not_refused (refusal (pointer_rules d)) w refl in
+    let q = pointed_told d w in
     let sound = passed_sound d q.0 in
     whether (is_default d)
-    (λ t. absurd (omega (arith, ap value_count (sym (told_default d t) ∙ q.1))))
+    (λ t. absurd (omega (arith, ap value_count (q.1 ∙ told_default d t))))
     (λ f.
-    let same = sym (told_table d f) ∙ q.1 in
-    let start = ap (value_at 4) same in
-    let end = ap (value_at 5) same in
+    let same = sym (q.1 ∙ told_table d f) in
+    let start = ap (value_at 3) same in
+    let end = ap (value_at 4) same in
     record {
       rules = dump_number d ∙ rw (q.0, f, ← start, ← end);
       table = f;
-      place = sym (ap (value_at 1) same);
-      bit = sym (ap (value_at 2) same);
-      address = sym (ap (value_at 3) same);
+      place = sym (ap (value_at 0) same);
+      bit = sym (ap (value_at 1) same);
+      address = sym (ap (value_at 2) same);
       bytes = rw (← start, ← end);
       order = rw (← start, ← end) (table_order d sound);
       inside = rw (← end) (table_inside d sound);
@@ -148,35 +138,32 @@ pointed_table d p b a s e w =
 
 -- ---- The reader's answer, from the dump's number
 
-pub held_refused : (d : List ℕ) (n : ℕ) → dump_refusal d ≡ n → (n ≡ 0 → ⊥) → Refused n ≡ held d
+pub held_refused : (d : List ℕ) {r : Refusal} → (dump_refusal d ≡ 0 → ⊥) → r ≡ refusal_numbered (dump_refusal d) → Err r ≡ held d
 unfolding held
-held_refused d zero e z = absurd (z refl)
-held_refused d (suc n) e z = rw e
+held_refused d z e = answered_err (dump_refusal d) (told d) z e
 
-pub held_accepted : (d : List ℕ) {r : Held} → dump_refusal d ≡ 0 → r ≡ pointed d → r ≡ held d
-unfolding held pointed
-held_accepted d e q = q ∙ rw (e, held_none d e)
+pub held_accepted : (d : List ℕ) {h : Held} → dump_refusal d ≡ 0 → Ok h ≡ pointed d → Ok h ≡ held d
+unfolding held
+held_accepted d e q = ap Ok (pointed_told d (sym q)).1 ∙ answered_ok (dump_refusal d) (told d) e
 
 -- ---- The dump, from the reader's answer
 
-pub held_number : (d : List ℕ) (n : ℕ) → held d ≡ Refused n → (dump_refusal d ≡ n) × (0 < n)
+pub held_number : (d : List ℕ) {r : Refusal} → held d ≡ Err r → (dump_refusal d ≡ 0 → ⊥) × (r ≡ refusal_numbered (dump_refusal d))
 unfolding held
-held_number d n e = refused_number (dump_refusal d) (told d) (told_not d) e
+held_number d e = given_err (dump_refusal d) (told d) (sym e)
 
-held_pointed : (d : List ℕ) {r : Held} → held d ≡ r → is_refused r ≡ false → (dump_refusal d ≡ 0) × (pointed d ≡ r)
+held_pointed : (d : List ℕ) {h : Held} → held d ≡ Ok h → (dump_refusal d ≡ 0) × (pointed d ≡ Ok h)
 unfolding held pointed
-held_pointed d e f =
-    let q = not_refused (dump_refusal d) e f in
-    (q.0, rw (held_none d q.0) q.1)
+held_pointed d e =
+    let q = given_ok (dump_refusal d) (told d) (sym e) in
+    (q.0, sym (answered_ok (refusal (pointer_rules d)) (told d) (held_none d q.0)) ∙ ap Ok (sym q.1))
 
 pub held_default :
-    (d : List ℕ) (n b : ℕ) → held d ≡ Default n b
+    (d : List ℕ) (n b : ℕ) → held d ≡ Ok (Default n b)
     → (dump_refusal d ≡ 0) × (is_default d ≡ true) × (n ≡ feature1 (pointer_bytes d)) × (b ≡ imcr_of d)
-unfolding is_refused
-held_default d n b e = pointed_default d n b (held_pointed d e refl).1
+held_default d n b e = pointed_default d n b (held_pointed d e).1
 
-pub held_table : (d : List ℕ) (p b a s e : ℕ) → held d ≡ Table p b a s e → (dump_refusal d ≡ 0) × Pointed d p b a s e
-unfolding is_refused
+pub held_table : (d : List ℕ) (p b a s e : ℕ) → held d ≡ Ok (Table p b a s e) → (dump_refusal d ≡ 0) × Pointed d p b a s e
 held_table d p b a s e q =
-    let h = held_pointed d q refl in
+    let h = held_pointed d q in
     (h.0, pointed_table d p b a s e h.1)

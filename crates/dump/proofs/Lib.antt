@@ -1,2 +1,3 @@
 pub mod Laws
 pub mod Narrow
+pub mod Ways

@@ -6,6 +6,7 @@ use mathlib.Core.List.{List}
 use native.Mathlib.Omega.{arith}
 use lib.Dec.{ltb, eqb}
 use borrow.Author.Tests.{ltb-true, ltb-false}
+use Rattle.std.specs.Prelude.{Ok}
 use Rattle.mps.specs.Words.{part, flag}
 use Rattle.mps.specs.Layout.{default_most, pointer_size, memory_end, feature1, imcr}
 use Rattle.mps.specs.Refusals.{refusal}
@@ -58,10 +59,10 @@ module _ (d : List ℕ) (e : refusal (pointer_rules d) ≡ 0) where
   table_low b =
       let k = spot d (passed_sound d e) one_is in
       rw (ap (λ (c : Candidate). c.bytes) k.there.first)
-      (le_below 4 (part k.place (k.place + pointer_size) d) 4 (bytes_part k.place (k.place + pointer_size) d b))
+      (le_below 4 (part k.at.place (k.at.place + pointer_size) d) 4 (bytes_part k.at.place (k.at.place + pointer_size) d b))
 
 -- A default configuration is 1 to 7, and the bit of a pointer 0 or 1.
-pub default_narrow : (d : List ℕ) (n b : ℕ) → held d ≡ Default n b → (0 < n) × (n ≤ default_most) × (b ≤ 1)
+pub default_narrow : (d : List ℕ) (n b : ℕ) → held d ≡ Ok (Default n b) → (0 < n) × (n ≤ default_most) × (b ≤ 1)
 unfolding is_default
 default_narrow d n b q =
     let h = held_default d n b q in
@@ -70,7 +71,7 @@ default_narrow d n b q =
     (omega (arith, h.2, some), omega (arith, h.2, f), rw h.3 (flag_most (imcr (pointer_bytes d))))
 
 -- Addresses have four bytes.
-pub table_narrow : (d : List ℕ) (p b a s e : ℕ) → Bytes d → held d ≡ Table p b a s e → (p < memory_end) × (b ≤ 1) × (a < memory_end)
+pub table_narrow : (d : List ℕ) (p b a s e : ℕ) → Bytes d → held d ≡ Ok (Table p b a s e) → (p < memory_end) × (b ≤ 1) × (a < memory_end)
 table_narrow d p b a s e small q =
     let h = held_table d p b a s e q in
     let none = held_none d h.0 in

@@ -7,27 +7,18 @@
 ghost use Rattle.std.specs.Prelude.{◌≡◌};
 ghost use Rattle.mps.specs.Judge.{held};
 
-use mps::Held;
+use mps::{Held, Refusal};
 
-pub fn read(d: &[u8]) -> Held
+#[tactic(auto, using(crate::proofs::Ways::read_laws))]
+pub fn read(d: &[u8]) -> Result<Held, Refusal>
     ensures { result ≡ held d.now }
 {
-    let found = finding::find(d);
+    let found = finding::find(d)?;
     match found {
-        Held::Refused(n) => Held::Refused(n),
-        Held::Default { number, imcr } => Held::Default { number, imcr },
-        Held::Table {
-            pointer,
-            imcr,
-            address,
-            start,
-            end,
-        } => {
-            let number = judge::refusal(&d[start..end]);
-            if number != 0 {
-                return Held::Refused(number);
-            }
-            found
+        Held::Default { .. } => Ok(found),
+        Held::Table { start, end, .. } => {
+            judge::judge(&d[start..end])?;
+            Ok(found)
         }
     }
 }

@@ -4,9 +4,10 @@ use mathlib.Core.Path.{◌≡◌, refl, ap, sym, ◌∙◌}
 use mathlib.Core.Bool.{Bool, true, false, ◌&&◌, true≢false}
 use mathlib.Core.List.{List, [], ◌∷◌, ◌++◌, append-nil}
 use native.Mathlib.Omega.{arith}
-use lib.ListN.{length}
+use lib.ListN.{length, replicate}
+use lib.Seq.{sets}
 use lib.Dec.{leb, eqb}
-use borrow.Author.Tests.{leb-true, eq-eqb, ne_eqb}
+use borrow.Author.Tests.{leb-true, eq-eqb, eqb-true}
 use Rattle.mps.specs.Words.{cut, only, keep, any, none, joined}
 use Rattle.mps.specs.Layout.{pointer_size, region_step, memory_end}
 use Rattle.mps.specs.Dump.{end_of, body, of_kind, regions, kind_rule, sound_region, sound_dump}
@@ -16,23 +17,29 @@ use Rattle.laws.proofs.Tests.{whether, and_parts}
 use Rattle.laws.proofs.Lists.{keep_append}
 use Rattle.laws.proofs.Joined.{joined_append}
 use Rattle.laws.proofs.Parts.{length_part, part_part}
-use Rattle.regions.specs.Regions.{blank, first_of_kind}
+use Rattle.regions.specs.Regions.{blank, eight, first_of_kind}
 use Rattle.regions.proofs.Firsts.{first_all}
 use Rattle.contents.proofs.Rules.{sound_parts}
-use Rattle.contents.proofs.Laws.{sound_kind, kind_listed, kind_inside}
-use Rattle.pointers.specs.declared.Searched.{Searched}
-use Rattle.pointers.specs.declared.Searched.TheVariants.{At as Searched-as-At, Nothing}
+use Rattle.contents.proofs.Laws.{sound_count, sound_listed, sound_kind, kind_listed, kind_inside}
+use Rattle.regions.specs.Walk.{listed}
+use Rattle.regions.proofs.Eight.{eight_sets}
+use Rattle.std.specs.Prelude.{Option, None, Some, find}
+use Rattle.std.specs.Option.{option_map}
+use Rattle.std.proofs.lemmas.Option.{none-some, same_Some}
 use Rattle.pointers.specs.Search.{search_of}
 use Rattle.pointers.proofs.Laws.{none_found, found_first}
-use Rattle.finding.specs.Spotted.{searched_first, SpotsAt, Spots}
+use Rattle.finding.specs.Spotted.{or_blank, searched_first, Fits, SpotsAt, Spots}
 use Rattle.finding.specs.declared.Spotted.{Spotted}
-use Rattle.finding.specs.declared.Spotted.TheVariants.{At, Nowhere}
 
 -- ---- The regions that are searched
 
 blank_candidates : (d : List ℕ) → candidates d blank ≡ []
 unfolding candidates addressed cut
 blank_candidates d = refl
+
+pub spots_blank : (d : List ℕ) {o : Option Region} → o ≡ None → keep good_one (candidates d (or_blank o)) ≡ []
+unfolding keep
+spots_blank d e = rw (e, blank_candidates d)
 
 blank_is : (k : ℕ) (rs : List Region) → keep (of_kind k) rs ≡ [] → first_of_kind k rs ≡ blank
 unfolding first_of_kind
@@ -81,20 +88,46 @@ module _ (d : List ℕ) (sound : sound_dump d ≡ true) where
       ap (keep good_one) searched_candidates
       ∙ keep_append good_one (candidates d (searched_first (regions d))) (candidates d (first_of_kind 3 (regions d)))
 
--- The one of the first two kinds, as it is looked up.
-module _ (rs : List Region) {r : Region} (e : r ≡ first_of_kind 1 rs) where
-  pub first_ebda : r.kind ≡ 1 → r ≡ searched_first rs
+pub map_same : {A : Type 0} (o : Option A) → option_map (λ x. x) o ≡ o
+map_same None = refl
+map_same (Some x) = refl
+
+-- The first of a kind, as it is looked up.
+pub find_kind : (k : ℕ) (rs : List Region) → or_blank (find (of_kind k) rs) ≡ first_of_kind k rs
+unfolding first_of_kind keep
+find_kind k [] = refl
+find_kind k (r ∷ rs) = whether (of_kind k r) (λ t. rw t) (λ f. rw f (find_kind k rs))
+
+pub found_kind : (k : ℕ) (rs : List Region) {r : Region} → find (of_kind k) rs ≡ Some r → r.kind ≡ k
+found_kind k [] e = absurd (none-some _ e)
+found_kind k (q ∷ rs) {r} e =
+    whether (of_kind k q)
+    (λ t. rw (← same_Some q r (rw t at e)) (eqb-true q.kind k t))
+    (λ f. found_kind k rs (rw f at e))
+
+-- The one of the first two kinds.
+module _ (rs : List Region) {o : Option Region} (e : o ≡ find (of_kind 1) rs) where
+  pub first_ebda : {r : Region} → o ≡ Some r → or_blank (Some r) ≡ searched_first rs
   unfolding searched_first
-  first_ebda k = rw (← e, eq-eqb r.kind 1 k)
+  first_ebda {r} q =
+      let is : first_of_kind 1 rs ≡ r = sym (find_kind 1 rs) ∙ rw (← e, q) in
+      rw (is, eq-eqb r.kind 1 (found_kind 1 rs (sym e ∙ q)))
 
-  pub first_base : {q : Region} → (r.kind ≡ 1 → ⊥) → q ≡ first_of_kind 2 rs → q ≡ searched_first rs
+  pub first_base : {p : Option Region} → o ≡ None → p ≡ find (of_kind 2) rs → or_blank p ≡ searched_first rs
   unfolding searched_first
-  first_base n f = rw (← e, ne_eqb r.kind 1 n) f
+  first_base q f =
+      let is : first_of_kind 1 rs ≡ blank = sym (find_kind 1 rs) ∙ rw (← e, q) in
+      rw (is, f) (find_kind 2 rs)
 
--- ---- A region whose body is inside the dump, and whose addresses have four bytes
+-- ---- All of them, as records
 
-abbrev pub Fits : List ℕ → Region → Type 0
-Fits d r = (r.offset + r.size ≤ length d) × (end_of r ≤ memory_end)
+pub listed_few : (d : List ℕ) → sound_dump d ≡ true → length (listed d) ≤ 8
+listed_few d sound = rw (sound_listed d sound) (sound_count d sound)
+
+pub records_start : (d : List ℕ) → sound_dump d ≡ true → sets (replicate 8 blank) 0 (listed d) ≡ eight (regions d)
+records_start d sound = rw (sound_listed d sound) (eight_sets (regions d) (sound_count d sound))
+
+-- ---- They fit
 
 module _ (d : List ℕ) (sound : sound_dump d ≡ true) where
   kind_end : (k : ℕ) → end_of (first_of_kind k (regions d)) ≤ memory_end
@@ -115,15 +148,15 @@ module _ (d : List ℕ) (sound : sound_dump d ≡ true) where
 -- ---- The first good candidate of a region
 
 -- x is what the search of its body answers.
-module _ (d : List ℕ) (r : Region) (fits : Fits d r) {x : Searched} (e : x ≡ search_of (body d r)) where
+module _ (d : List ℕ) (r : Region) (fits : Fits d r) {x : Option ℕ} (e : x ≡ search_of (body d r)) where
   body_length : length (body d r) ≡ r.size
   body_length = length_part r.offset (r.offset + r.size) d fits.0 ∙ omega arith
 
-  pub found_inside : (at : ℕ) → x ≡ Searched-as-At at → at + pointer_size ≤ r.size
+  pub found_inside : (at : ℕ) → x ≡ Some at → at + pointer_size ≤ r.size
   found_inside at q = omega (arith, body_length, (found_first r.base (body d r) at (sym e ∙ q)).inside)
 
-  pub spots_at_lem : (at : ℕ) → x ≡ Searched-as-At at → Spots d (keep good_one (candidates d r)) (At (r.base + at) (r.offset + at))
-  unfolding candidates Spots
+  pub spots_at_lem : (at : ℕ) → x ≡ Some at → Spots d (keep good_one (candidates d r)) (Some (record { address = r.base + at; place = r.offset + at }))
+  unfolding candidates
   spots_at_lem at q =
       let f = found_first r.base (body d r) at (sym e ∙ q) in
       let p = part_part r.offset (r.offset + r.size) at (at + pointer_size) d (omega (arith, found_inside at q)) in
@@ -134,13 +167,13 @@ module _ (d : List ℕ) (r : Region) (fits : Fits d r) {x : Searched} (e : x ≡
         inside = omega (arith, fits.0, found_inside at q);
       }
 
-  pub spots_nothing : x ≡ Nothing → Spots d (keep good_one (candidates d r)) Nowhere
-  unfolding candidates Spots
+  pub spots_nothing : x ≡ None → Spots d (keep good_one (candidates d r)) None
+  unfolding candidates
   spots_nothing q = none_found r.base (body d r) (sym e ∙ q)
 
 -- ---- .. of all that are searched
 
-spots_before : (d : List ℕ) (cs es : List Candidate) {a p : ℕ} → SpotsAt d cs a p → SpotsAt d (cs ++ es) a p
+spots_before : (d : List ℕ) (cs es : List Candidate) {at : Spotted} → SpotsAt d cs at → SpotsAt d (cs ++ es) at
 spots_before d [] es s = absurd (true≢false s.some)
 spots_before d (c ∷ cs) es s = record { some = refl; first = s.first; inside = s.inside }
 
@@ -148,51 +181,45 @@ module _ (d : List ℕ) (sound : sound_dump d ≡ true) {r : Region} (f : r ≡ 
   pub first_region_fits : Fits d r
   first_region_fits = rw f (first_fits d sound)
 
-  module _ {x : Spotted} (s : Spots d (keep good_one (candidates d r)) x) where
-    pub spots_first : {a p : ℕ} → x ≡ At a p → Spots d (pointers d) (At a p)
-    unfolding Spots
+  module _ {x : Option Spotted} (s : Spots d (keep good_one (candidates d r)) x) where
+    pub spots_first : {at : Spotted} → x ≡ Some at → Spots d (pointers d) (Some at)
     spots_first q =
         rw (pointers_are d sound)
         (spots_before d (keep good_one (candidates d (searched_first (regions d)))) _ (rw (q, f) at s))
 
-    module _ (q : x ≡ Nowhere) {m : Region} (g : m ≡ first_of_kind 3 (regions d)) where
+    module _ (q : x ≡ None) {m : Region} (g : m ≡ first_of_kind 3 (regions d)) where
       pub rom_region_fits : Fits d m
       rom_region_fits = rw g (kind_fits d sound 3)
 
-      pub spots_rom : (y : Spotted) → Spots d (keep good_one (candidates d m)) y → Spots d (pointers d) y
-      unfolding Spots
+      pub spots_rom : (y : Option Spotted) → Spots d (keep good_one (candidates d m)) y → Spots d (pointers d) y
       spots_rom y w = rw (pointers_are d sound, rw (q, f) at s) (rw g at w)
 
 -- ---- What was spotted, in each of its cases
 
-module _ (d : List ℕ) (cs : List Candidate) {x : Spotted} (s : Spots d cs x) where
-  pub spotted_at : {a p : ℕ} → x ≡ At a p → SpotsAt d cs a p
-  unfolding Spots
+module _ (d : List ℕ) (cs : List Candidate) {x : Option Spotted} (s : Spots d cs x) where
+  pub spotted_at : {at : Spotted} → x ≡ Some at → SpotsAt d cs at
   spotted_at q = rw q at s
 
-  pub spotted_none : x ≡ Nowhere → cs ≡ []
-  unfolding Spots
+  pub spotted_none : x ≡ None → cs ≡ []
   spotted_none q = rw q at s
 
 -- ---- Where a pointer is, one is spotted, and its address has four bytes
 
 pub record Spot (d : List ℕ) : Type 0 where
-  pub address : ℕ
-  pub place : ℕ
-  pub there : SpotsAt d (pointers d) address place
-  pub low : address < memory_end
+  pub at : Spotted
+  pub there : SpotsAt d (pointers d) at
+  pub low : at.address < memory_end
 
 spot_in :
     {C : Type 0} (d : List ℕ) (r : Region) → Fits d r → (keep good_one (candidates d r) ≡ [] → C)
-    → ((a p : ℕ) → SpotsAt d (keep good_one (candidates d r)) a p → a < memory_end → C) → C
-unfolding Spots
+    → ((at : Spotted) → SpotsAt d (keep good_one (candidates d r)) at → at.address < memory_end → C) → C
 spot_in {C} d r fits none some = cases (search_of (body d r)) refl
   where
-    cases : (x : Searched) → search_of (body d r) ≡ x → C
-    cases (Searched-as-At at) q =
-        some (r.base + at) (r.offset + at) (spots_at_lem d r fits refl at q)
+    cases : (x : Option ℕ) → search_of (body d r) ≡ x → C
+    cases (Some at) q =
+        some _ (spots_at_lem d r fits refl at q)
         (omega (arith, found_inside d r fits refl at q, fits.1))
-    cases Nothing q = none (spots_nothing d r fits refl q)
+    cases None q = none (spots_nothing d r fits refl q)
 
 pub spot : (d : List ℕ) → sound_dump d ≡ true → no_pointer d ≡ false → Spot d
 unfolding no_pointer
@@ -204,10 +231,9 @@ spot d sound n =
     (λ e.
     spot_in d rom (kind_fits d sound 3)
     (λ f. absurd (true≢false (sym (ap none (rw (e, f) at all)) ∙ n)))
-    (λ a p w l. record { address = a; place = p; there = rw (all, e) w; low = l }))
-    (λ a p w l. record {
-      address = a;
-      place = p;
+    (λ at w l. record { at = at; there = rw (all, e) w; low = l }))
+    (λ at w l. record {
+      at = at;
       there = rw all (spots_before d (keep good_one (candidates d first)) (keep good_one (candidates d rom)) w);
       low = l;
     })

@@ -16,7 +16,11 @@ use Rattle.mps.specs.Pointer.{Candidate, pointers, pointer, pointer_bytes, is_de
 use Rattle.mps.specs.Pointer.{no_pointer, wrong_pointer_revision, wrong_feature}
 use Rattle.mps.specs.Judge.{pointer_rules, told, pointed}
 use Rattle.mps.specs.declared.Region.{Region}
-use Rattle.mps.specs.declared.Held.TheVariants.{Default, Table, Refused}
+use Rattle.mps.specs.declared.Held.TheVariants.{Default, Table}
+use Rattle.std.specs.Prelude.{Ok, Err}
+use Rattle.mps.specs.Reasons.{refusal_numbered}
+use Rattle.mps.specs.declared.refusals.Refusal.TheVariants.{BadDump, NoPointer, PointerRevision, FeatureByte}
+use Rattle.finding.specs.declared.Spotted.{Spotted}
 use Rattle.laws.proofs.Refusals.{refusal_stop, refusal_go, refusal_end}
 use Rattle.regions.specs.Regions.{eight}
 use Rattle.contents.proofs.Laws.{sound_count, holding_eight, holding_inside}
@@ -25,22 +29,22 @@ use Rattle.finding.specs.Spotted.{SpotsAt}
 -- ---- The answer from the number
 
 module _ (d : List ℕ) where
-  number_told : (n : ℕ) → refusal (pointer_rules d) ≡ suc n → Refused (suc n) ≡ pointed d
+  number_told : (n : ℕ) → refusal (pointer_rules d) ≡ suc n → Err (refusal_numbered (suc n)) ≡ pointed d
   unfolding pointed
   number_told n e = rw e
 
-  none_told : refusal (pointer_rules d) ≡ 0 → told d ≡ pointed d
+  none_told : refusal (pointer_rules d) ≡ 0 → Ok (told d) ≡ pointed d
   unfolding pointed
   none_told e = rw e
 
   -- ---- 1 and 2
 
-  pub says_1 : sound_dump d ≡ false → Refused 1 ≡ pointed d
-  unfolding pointer_rules
+  pub says_1 : sound_dump d ≡ false → Err BadDump ≡ pointed d
+  unfolding pointer_rules refusal_numbered
   says_1 e = number_told 0 (refusal_stop _ _ (ap not e))
 
-  pub says_2 : sound_dump d ≡ true → pointers d ≡ [] → Refused 2 ≡ pointed d
-  unfolding pointer_rules no_pointer
+  pub says_2 : sound_dump d ≡ true → pointers d ≡ [] → Err NoPointer ≡ pointed d
+  unfolding pointer_rules no_pointer refusal_numbered
   says_2 s e = number_told 1 (refusal_go _ _ (ap not s) ∙ refusal_stop _ _ (ap none e))
 
 -- ---- Where the first good pointer stands
@@ -53,7 +57,7 @@ module _ (d : List ℕ) where
   unfolding pointer
   address_none s e = rw (s, e)
 
-  pub address_spotted : {a place : ℕ} → sound_dump d ≡ true → SpotsAt d (pointers d) a place → a ≡ cond (sound_dump d) (pointer d).address 0
+  pub address_spotted : {at : Spotted} → sound_dump d ≡ true → SpotsAt d (pointers d) at → at.address ≡ cond (sound_dump d) (pointer d).address 0
   unfolding pointer
   address_spotted s w = rw s (sym (ap (λ (c : Candidate). c.address) w.first))
 
@@ -82,11 +86,11 @@ imcr_bit n h =
     let e : n / 128 % 2 ≡ n / 128 = omega arith in
     rw e (flag_of (n / 128) (omega arith))
 
-module _ (d : List ℕ) {a place : ℕ} (sound : sound_dump d ≡ true) (w : SpotsAt d (pointers d) a place) where
+module _ (d : List ℕ) {at : Spotted} (sound : sound_dump d ≡ true) (w : SpotsAt d (pointers d) at) where
   abbrev p : List ℕ
-  p = part place (place + pointer_size) d
+  p = part at.place (at.place + pointer_size) d
 
-  address_is : (pointer d).address ≡ a
+  address_is : (pointer d).address ≡ at.address
   unfolding pointer
   address_is = ap (λ (c : Candidate). c.address) w.first
 
@@ -98,8 +102,8 @@ module _ (d : List ℕ) {a place : ℕ} (sound : sound_dump d ≡ true) (w : Spo
   unfolding pointer_rules no_pointer
   past_2 = refusal_go _ _ (ap not sound) ∙ refusal_go _ _ w.some
 
-  pub says_3 : (pointer_revision p ≡ spec_revision → ⊥) → Refused 3 ≡ pointed d
-  unfolding wrong_pointer_revision known_revision
+  pub says_3 : (pointer_revision p ≡ spec_revision → ⊥) → Err PointerRevision ≡ pointed d
+  unfolding wrong_pointer_revision known_revision refusal_numbered
   says_3 n = number_told d 2 (past_2 ∙ refusal_stop _ _ (rw (bytes_are, ne_eqb _ _ n)))
 
   -- t is the table's address.
@@ -115,13 +119,14 @@ module _ (d : List ℕ) {a place : ℕ} (sound : sound_dump d ≡ true) (w : Spo
     unfolding is_default
     default_is = rw bytes_are
 
-    says_4 : wrong_feature d ≡ true → Refused 4 ≡ pointed d
+    says_4 : wrong_feature d ≡ true → Err FeatureByte ≡ pointed d
+    unfolding refusal_numbered
     says_4 h = number_told d 3 (past_3 ∙ refusal_stop _ _ h)
 
-    passes_4 : wrong_feature d ≡ false → told d ≡ pointed d
+    passes_4 : wrong_feature d ≡ false → Ok (told d) ≡ pointed d
     passes_4 h = none_told d (past_3 ∙ refusal_go _ _ h ∙ refusal_end)
 
-    pub over_7 : default_most < feature1 p → Refused 4 ≡ pointed d
+    pub over_7 : default_most < feature1 p → Err FeatureByte ≡ pointed d
     unfolding wrong_feature
     over_7 h = says_4 (rw (bytes_are, lt-ltb _ _ h))
 
@@ -129,33 +134,33 @@ module _ (d : List ℕ) {a place : ℕ} (sound : sound_dump d ≡ true) (w : Spo
       is_default_lem : is_default d ≡ true
       is_default_lem = default_is ∙ lt-ltb 0 (feature1 p) (omega arith)
 
-      pub default_with_table : (t ≡ 0 → ⊥) → Refused 4 ≡ pointed d
+      pub default_with_table : (t ≡ 0 → ⊥) → Err FeatureByte ≡ pointed d
       unfolding wrong_feature
       default_with_table z = says_4 (rw (is_default_lem, table_is, ne_eqb t 0 z, or-true))
 
       pub tells_default :
-          feature1 p ≤ default_most → t ≡ 0 → byte p 12 < 256 → Default (feature1 p) (byte p 12 / 128) ≡ pointed d
+          feature1 p ≤ default_most → t ≡ 0 → byte p 12 < 256 → Ok (Default (feature1 p) (byte p 12 / 128)) ≡ pointed d
       unfolding wrong_feature told
       tells_default h z l =
           let telling : told d ≡ Default (feature1 p) (flag (imcr p)) = rw (is_default_lem, bytes_are) in
           let right : wrong_feature d ≡ false = rw (is_default_lem, table_is, eq-eqb t 0 z, bytes_are, le-ltb _ _ h) in
-          rw (imcr_bit (byte p 12) l) (sym telling ∙ passes_4 right)
+          rw (imcr_bit (byte p 12) l) (ap Ok (sym telling) ∙ passes_4 right)
 
     module _ (n : feature1 p ≡ 0) where
       is_table : is_default d ≡ false
       is_table = default_is ∙ le-ltb 0 (feature1 p) (omega arith)
 
-      pub no_table : t ≡ 0 → Refused 4 ≡ pointed d
+      pub no_table : t ≡ 0 → Err FeatureByte ≡ pointed d
       unfolding wrong_feature
       no_table z = says_4 (rw (is_table, table_is, eq-eqb t 0 z, or-true))
 
       -- r is the region that holds the table.
       pub tells_table :
           {rs : List Region} {r : Region} → rs ≡ eight (regions d) → r ≡ holding t (take 8 rs) → (t ≡ 0 → ⊥) → byte p 12 < 256
-          → Table a (byte p 12 / 128) t (r.offset + (t - r.base)) (r.offset + r.size) ≡ pointed d
+          → Ok (Table at.address (byte p 12 / 128) t (r.offset + (t - r.base)) (r.offset + r.size)) ≡ pointed d
       unfolding wrong_feature told table_start table_end
       tells_table {r} q f z l =
-          let telling : told d ≡ Table a (flag (imcr p)) t (r.offset + (t - r.base)) (r.offset + r.size) =
+          let telling : told d ≡ Table at.address (flag (imcr p)) t (r.offset + (t - r.base)) (r.offset + r.size) =
           rw (is_table, address_is, table_is, bytes_are, holding_is d sound q t f) in
           let right : wrong_feature d ≡ false = rw (is_table, table_is, ne_eqb t 0 z, bytes_are, n) in
-          rw (imcr_bit (byte p 12) l) (sym telling ∙ passes_4 right)
+          rw (imcr_bit (byte p 12) l) (ap Ok (sym telling) ∙ passes_4 right)

@@ -8,37 +8,32 @@
 // are lent to it as a slice.
 #![tactic(auto)]
 
-ghost use Rattle.std.specs.Prelude.{◌≡◌, cond, true, ◌+◌, ◌*◌, ◌≤◌, length};
+ghost use Rattle.std.specs.Prelude.{◌≡◌, cond, true, find};
 ghost use Rattle.mps.specs.Words.{keep};
-ghost use Rattle.mps.specs.Layout.{regions_most, region_count, row_length, memory_end};
-ghost use Rattle.mps.specs.Dump.{regions as regions_of, sound_dump, end_of};
+ghost use Rattle.mps.specs.Dump.{regions as regions_of, of_kind as is_of_kind, sound_dump};
 ghost use Rattle.mps.specs.Pointer.{candidates, good_one, pointers as pointers_of, pointer as pointer_of};
 ghost use Rattle.mps.specs.Judge.{pointed};
-ghost use Rattle.regions.specs.Regions.{eight, first_of_kind};
-ghost use Rattle.finding.specs.Spotted.{searched_first, Spots, SpotsAt};
+ghost use Rattle.regions.specs.Regions.{eight};
+ghost use Rattle.finding.specs.Spotted.{or_blank, searched_first, Fits, Spots, SpotsAt};
 
-use mps::{Held, Region, layout};
-use pointers::Searched;
+use mps::{Held, Refusal, Region, layout};
 use regions::BLANK;
 
 // Where the first good pointer was met: its address, and its first byte's place in the dump.
 #[derive(Clone, Copy)]
-enum Spotted {
-    At { address: u32, place: usize },
-    Nowhere,
+struct Spotted {
+    address: u32,
+    place: usize,
 }
 
-pub fn find(d: &[u8]) -> Held
+pub fn find(d: &[u8]) -> Result<Held, Refusal>
     ensures { result ≡ pointed d.now }
 {
     if !contents::sound(d) {
-        return Held::Refused(1);
+        return Err(Refusal::BadDump);
     }
-    let spotted = spot(d);
-    match spotted {
-        Spotted::Nowhere => Held::Refused(2),
-        Spotted::At { address, place } => said(d, address, place),
-    }
+    let spotted = spot(d).ok_or(Refusal::NoPointer)?;
+    said(d, spotted)
 }
 
 // The address of the first good pointer: 0 where there is none, or where the dump is not sound.
@@ -48,132 +43,100 @@ pub fn pointer(d: &[u8]) -> u32
     if !contents::sound(d) {
         return 0;
     }
-    let spotted = spot(d);
-    match spotted {
-        Spotted::Nowhere => 0,
-        Spotted::At { address, place } => address,
+    match spot(d) {
+        Some(spotted) => spotted.address,
+        None => 0,
     }
 }
 
 // The search, in its order.
-fn spot(d: &[u8]) -> Spotted
+fn spot(d: &[u8]) -> Option<Spotted>
     requires { sound_dump d.now ≡ true }
     ensures { Spots d.now (pointers_of d.now) result }
 {
-    let spotted = spot_in(d, searched_first(d));
-    match spotted {
-        Spotted::At { address, place } => spotted,
-        Spotted::Nowhere => spot_in(d, of_kind(d, layout::BIOS_ROM)),
+    match spot_in(d, searched_first(d)) {
+        Some(spotted) => Some(spotted),
+        None => spot_in(d, of_kind(d, layout::BIOS_ROM)),
     }
 }
 
 // The EBDA and, only if none is listed, base memory.
-fn searched_first(d: &[u8]) -> Region
+fn searched_first(d: &[u8]) -> Option<Region>
     requires { sound_dump d.now ≡ true }
-    ensures { result ≡ searched_first (regions_of d.now) }
+    ensures { or_blank result ≡ searched_first (regions_of d.now) }
 {
-    let r = of_kind(d, layout::EBDA);
-    if r.kind == layout::EBDA {
-        return r;
+    match of_kind(d, layout::EBDA) {
+        Some(r) => Some(r),
+        None => of_kind(d, layout::BASE_MEMORY),
     }
-    of_kind(d, layout::BASE_MEMORY)
 }
 
-// How many regions are listed, and that their rows are there.
-fn listed(d: &[u8]) -> usize
+// The first region of a kind.
+#[tactic(auto, using(contents::proofs::Laws::sound_listed))]
+fn of_kind(d: &[u8], kind: u8) -> Option<Region>
     requires { sound_dump d.now ≡ true }
-    ensures { (result ≡ region_count d.now) × (result ≤ regions_most) × (1 + row_length * result ≤ length d.now) }
+    ensures { result ≡ find (is_of_kind kind) (regions_of d.now) }
 {
-    d[layout::REGION_COUNT] as usize
+    regions::of_dump(d).find(|r| r.kind == kind)
 }
 
-// The first region of a kind, a blank one where none is listed; a caller sees that by its kind.
-fn of_kind(d: &[u8], kind: u8) -> Region
-    requires { sound_dump d.now ≡ true }
-    ensures { result ≡ first_of_kind kind (regions_of d.now) }
+fn spot_in(d: &[u8], r: Option<Region>) -> Option<Spotted>
+    requires { Fits d.now (or_blank r) }
+    ensures { Spots d.now (keep good_one (candidates d.now (or_blank r))) result }
 {
-    let count = listed(d);
-    let mut offset = 1 + layout::ROW_LENGTH * count;
-    let mut i = 0;
-    while i < count {
-        let at = 1 + layout::ROW_LENGTH * i;
-        let r = regions::row(&d[at..at + layout::ROW_LENGTH], offset);
-        if r.kind == kind {
-            return r;
-        }
-        offset += r.size as usize;
-        i += 1;
-    }
-    BLANK
-}
-
-fn spot_in(d: &[u8], r: Region) -> Spotted
-    requires { (r.offset + r.size ≤ length d.now) × (end_of r ≤ memory_end) }
-    ensures { Spots d.now (keep good_one (candidates d.now r)) result }
-{
-    let start = r.offset;
-    let size = r.size as usize;
-    let found = pointers::search(&d[start..start + size]);
-    match found {
-        Searched::At(at) => Spotted::At {
-            address: r.base + at as u32,
-            place: start + at,
-        },
-        Searched::Nothing => Spotted::Nowhere,
-    }
+    let r = r?;
+    let at = pointers::search(&d[r.offset..r.offset + r.size as usize])?;
+    Some(Spotted {
+        address: r.base + at as u32,
+        place: r.offset + at,
+    })
 }
 
 // All regions as records, for the search for an address.
+#[tactic(auto, using(crate::proofs::Spots::listed_few, crate::proofs::Spots::records_start))]
 fn records(d: &[u8]) -> [Region; 8]
     requires { sound_dump d.now ≡ true }
     ensures { result ≡ eight (regions_of d.now) }
 {
-    let count = listed(d);
     let mut rs = [BLANK; 8];
-    let mut offset = 1 + layout::ROW_LENGTH * count;
-    let mut i = 0;
-    while i < count {
-        let at = 1 + layout::ROW_LENGTH * i;
-        let r = regions::row(&d[at..at + layout::ROW_LENGTH], offset);
+    for (i, r) in regions::of_dump(d).enumerate() {
         rs[i] = r;
-        offset += r.size as usize;
-        i += 1;
     }
     rs
 }
 
 // 3 and 4, and then what the pointer tells.
-fn said(d: &[u8], address: u32, place: usize) -> Held
+fn said(d: &[u8], spotted: Spotted) -> Result<Held, Refusal>
     requires d_value { sound_dump d.now ≡ true }
-    requires spots_at { SpotsAt d.now (pointers_of d.now) address place }
+    requires spots_at { SpotsAt d.now (pointers_of d.now) spotted }
     ensures { result ≡ pointed d.now }
 {
-    let p = &d[place..place + layout::POINTER_SIZE];
+    let p = &d[spotted.place..spotted.place + layout::POINTER_SIZE];
     if p[layout::POINTER_REVISION] != layout::SPEC_REVISION {
-        return Held::Refused(3);
+        return Err(Refusal::PointerRevision);
     }
     let number = p[layout::FEATURE_1];
     // Bit 7.
     let imcr = p[layout::FEATURE_2] / 128;
     let table = numbers::le32(p, layout::POINTER_TABLE);
     if layout::DEFAULT_MOST < number {
-        return Held::Refused(4);
+        return Err(Refusal::FeatureByte);
     }
     if number != 0 {
         if table != 0 {
-            return Held::Refused(4);
+            return Err(Refusal::FeatureByte);
         }
-        return Held::Default { number, imcr };
+        return Ok(Held::Default { number, imcr });
     }
     if table == 0 {
-        return Held::Refused(4);
+        return Err(Refusal::FeatureByte);
     }
     let r = regions::holding(records(d), table);
-    Held::Table {
-        pointer: address,
+    Ok(Held::Table {
+        pointer: spotted.address,
         imcr,
         address: table,
         start: r.offset + (table - r.base) as usize,
         end: r.offset + r.size as usize,
-    }
+    })
 }

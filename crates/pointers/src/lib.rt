@@ -7,19 +7,13 @@
 // itself, and only one that begins with the signature is added up.
 #![tactic(auto)]
 
-ghost use Rattle.std.specs.Prelude.{◌≡◌, false, ◌+◌, ◌≤◌, length, drop};
-ghost use Rattle.mps.specs.Words.{cut};
+ghost use Rattle.std.specs.Prelude.{◌≡◌, false, ℕ, List, ◌+◌, length};
+ghost use Rattle.mps.specs.Words.{part};
 ghost use Rattle.mps.specs.Layout.{pointer_size};
-ghost use Rattle.mps.specs.Pointer.{sixteen, good as is_good};
-ghost use Rattle.pointers.specs.Search.{first_good, search_of};
+ghost use Rattle.mps.specs.Pointer.{good as is_good};
+ghost use Rattle.pointers.specs.Search.{search_of, left, Seeks};
 
 use mps::layout;
-
-#[derive(Clone, Copy)]
-pub enum Searched {
-    At(usize),
-    Nothing,
-}
 
 // "_MP_" as a number, so that it is compared at once.
 const SIGNATURE: u32 = 0x5f504d5f;
@@ -27,41 +21,37 @@ const SIGNATURE: u32 = 0x5f504d5f;
 // Bytes of four paragraphs.
 const FOUR_PARAGRAPHS: usize = 4 * layout::POINTER_SIZE;
 
-pub fn search(s: &[u8]) -> Searched
+pub fn search(s: &[u8]) -> Option<usize>
     ensures { result ≡ search_of s.now }
 {
-    let mut at = passed(s);
-    while layout::POINTER_SIZE <= s.len() - at {
-        if good(&s[at..at + layout::POINTER_SIZE]) {
-            return Searched::At(at);
+    let from = passed(s);
+    for (i, p) in s[from..].chunks_exact(layout::POINTER_SIZE).enumerate() {
+        if good(p) {
+            return Some(from + layout::POINTER_SIZE * i);
         }
-        at += layout::POINTER_SIZE;
     }
-    Searched::Nothing
+    None
 }
 
 // Passes over paragraphs four at a time as long as none begins with the signature, so that the cost of a turn is shared by
 // four of them.
 fn passed(s: &[u8]) -> usize
-    ensures { (first_good result (cut sixteen 0 (drop result s.now)) ≡ search_of s.now) × (result ≤ length s.now) }
+    ensures { Seeks s.now result }
 {
-    let mut at = 0;
-    while FOUR_PARAGRAPHS <= s.len() - at {
-        if any_signature(s, at) {
-            return at;
+    for (i, four) in s.chunks_exact(FOUR_PARAGRAPHS).enumerate() {
+        if any_signature(four) {
+            return FOUR_PARAGRAPHS * i;
         }
-        at += FOUR_PARAGRAPHS;
     }
-    at
+    s.len() - s.len() % FOUR_PARAGRAPHS
 }
 
-// Whether one of the four paragraphs from a place on begins with the signature. All that is promised is what a no is worth:
-// the search may go on behind them.
-fn any_signature(s: &[u8], at: usize) -> bool
-    requires { at + 64 ≤ length s.now }
-    ensures { result ≡ false → first_good at (cut sixteen 0 (drop at s.now)) ≡ first_good (at + 64) (cut sixteen 0 (drop (at + 64) s.now)) }
+// Whether one of four paragraphs begins with the signature. All that is promised is what a no is worth: the search may go
+// on behind them.
+fn any_signature(p: &[u8]) -> bool
+    requires { length p.now ≡ 64 }
+    ensures { result ≡ false → (s : List ℕ) (at : ℕ) → p.now ≡ part at (at + 64) s → left s at ≡ left s (at + 64) }
 {
-    let p = &s[at..at + FOUR_PARAGRAPHS];
     (numbers::le32(p, 0) == SIGNATURE)
         | (numbers::le32(p, 16) == SIGNATURE)
         | (numbers::le32(p, 32) == SIGNATURE)

@@ -1,15 +1,14 @@
--- What the code reads, tests and searches is what the definitions say. Assumes nothing.
-use Prim.Native.Nat.{ℕ, ◌+◌}
+-- What the code reads and searches is what the definitions say. Assumes nothing.
+use Prim.Native.Nat.{ℕ}
 use mathlib.Core.Path.{◌≡◌, refl}
-use mathlib.Core.Bool.{true, false, ◌&&◌}
+use mathlib.Core.Bool.{true, false}
 use mathlib.Core.List.{List, [], ◌∷◌}
 use native.Mathlib.Omega.{arith}
 use lib.ListN.{take}
 use lib.Seq.{get_or-take}
 use lib.Dec.{leb, ltb}
 use borrow.Author.Tests.{ltb-true}
-use Rattle.mps.specs.Words.{byte, keep}
-use Rattle.mps.specs.Numbers.{le}
+use Rattle.mps.specs.Words.{keep}
 use Rattle.mps.specs.Layout.{row_length}
 use Rattle.mps.specs.Dump.{of_kind, holds, no_region}
 use Rattle.mps.specs.declared.Region.{Region}
@@ -20,27 +19,14 @@ use Rattle.regions.specs.Regions.{blank, row_of, first_of_kind}
 
 -- ---- A row
 
--- k, b and n are what is read of it.
-pub row_is :
-    (s : List ℕ) (offset k b n : ℕ) → k ≡ byte s 0 → b ≡ le 4 s 1 → n ≡ le 4 s 5
-    → ◌≡◌ {A = Region} (record { kind = k; base = b; offset = offset; size = n }) (row_of offset s)
-unfolding row_of
-row_is s offset k b n ke be ne = rw (ke, be, ne)
-
 -- It has nine bytes: what stands behind them is not read.
 pub row_nine : (offset : ℕ) (s : List ℕ) → row_of offset (take row_length s) ≡ row_of offset s
 unfolding row_of
 row_nine offset s = rw (get_or-take 9 s 0 0 (omega arith), le_take 4 9 s 1 (omega arith), le_take 4 9 s 5 (omega arith))
 
--- ---- The test
+-- ---- A blank record
 
--- a, b and c are the address, the base and the size as wider numbers.
-pub holds_is :
-    (base size address a b c : ℕ) → a ≡ address → b ≡ base → c ≡ size
-    → (leb base address && ltb a (b + c)) ≡ (leb base address && ltb address (base + size))
-holds_is base size address a b c v w u = rw (v, w, u)
-
--- A blank record holds no address.
+-- It holds no address.
 pub holding_blank : (address : ℕ) → holds address blank ≡ true → blank ≡ no_region address
 unfolding holds
 holding_blank address t = absurd (omega (arith, ltb-true address 0 (and_parts (leb 0 address) (ltb address 0) t).1))

@@ -1,4 +1,5 @@
 pub mod Firsts
 pub mod Search
+pub mod Walk
 pub mod Coded
 pub mod Eight

@@ -1,73 +1,56 @@
 -- Laws of the search for the region that holds an address: the place of the first that does. Assumes nothing.
-use Prim.Native.Nat.{ℕ, suc, ◌+◌, ◌≤◌, ◌<◌}
+use Prim.Native.Nat.{ℕ, ◌+◌, ◌≤◌}
 use mathlib.Core.Path.{◌≡◌, refl}
-use mathlib.Core.Bool.{Bool, true, false, ◌&&◌}
+use mathlib.Core.Bool.{Bool, ◌&&◌}
 use mathlib.Core.List.{List, [], ◌∷◌}
 use native.Mathlib.Omega.{arith}
-use native.Mathlib.Numerals.{add-one}
-use lib.ListN.{length, get_or, take, drop, drop_of_length-le}
-use lib.Seq.{take_all, drop-cons}
+use lib.ListN.{length, get_or, take}
+use lib.Seq.{take_all}
 use lib.Dec.{leb, ltb}
+use borrow.Author.Tests.{ltb-false}
+use Rattle.std.specs.List.{position, position_or_len}
+use Rattle.std.specs.Option.{unwrap_or}
 use Rattle.mps.specs.Words.{keep}
 use Rattle.mps.specs.Dump.{holds, no_region, holding}
 use Rattle.mps.specs.declared.Region.{Region}
 use Rattle.laws.proofs.Tests.{whether}
-use Rattle.regions.specs.Regions.{blank, place_holding}
+use Rattle.regions.specs.Regions.{place_holding}
 
--- ---- A walk along the list: what is left from place i on
+-- ---- The library's search
 
-module _ (address : ℕ) (rs : List Region) (i : ℕ) where
-  -- The region at the place, and the test of its numbers.
-  abbrev pub here : Region
-  here = get_or rs i blank
+module _ (address : ℕ) where
+  abbrev pub passes : Region → Bool
+  passes r = leb r.base address && ltb address (r.base + r.size)
 
-  abbrev pub tested : Bool
-  tested = leb here.base address && ltb address (here.base + here.size)
-
-  pub search_end : length rs ≤ i → place_holding address (drop i rs) ≡ 0
+  place_most : (rs : List Region) → place_holding address rs ≤ length rs
   unfolding place_holding
-  search_end h = rw drop_of_length-le
+  place_most [] = omega arith
+  place_most (r ∷ rs) = whether (holds address r) (λ t. rw t (omega arith)) (λ t. rw t (omega (arith, place_most rs)))
 
-  module _ (h : i < length rs) where
-    pub search_hit : tested ≡ true → place_holding address (drop i rs) ≡ 0
-    unfolding place_holding holds
-    search_hit e = rw (drop-cons rs i blank h, place_holding, e)
+  prefix_place : (rs : List Region) → position_or_len passes rs ≡ place_holding address rs
+  unfolding place_holding holds
+  prefix_place [] = refl
+  prefix_place (r ∷ rs) = whether (passes r) (λ t. rw t) (λ t. rw t (omega (arith, prefix_place rs)))
 
-    pub search_miss :
-        tested ≡ false → place_holding address (drop i rs) ≡ suc (place_holding address (drop (i + 1) rs))
-    unfolding place_holding holds
-    search_miss e = rw (add-one i, drop-cons rs i blank h, place_holding, e)
+  -- The place that `position` answers, or how many there are.
+  pub place_position : (rs : List Region) → unwrap_or (position passes rs) (length rs) ≡ place_holding address rs
+  place_position rs =
+      let e = prefix_place rs in
+      whether (ltb (position_or_len passes rs) (length rs))
+      (λ t. rw t e)
+      (λ t. rw t (omega (arith, e, place_most rs, ltb-false _ _ t)))
 
 -- ---- The region at the place
 
--- It is the one that holds the address.
+-- It is the one that holds the address; where the search went past the last, none does.
 pub holding_place :
-    (address : ℕ) (rs : List Region) (d : Region) → place_holding address rs < length rs
-    → get_or rs (place_holding address rs) d ≡ holding address rs
+    (address : ℕ) (rs : List Region) → get_or rs (place_holding address rs) (no_region address) ≡ holding address rs
 unfolding place_holding holding keep
-holding_place address [] d h = absurd (omega (arith, h))
-holding_place address (r ∷ rs) d h =
-    whether (holds address r)
-    (λ t. rw t)
-    (λ t. rw t (holding_place address rs d (omega (arith, rw t at h))))
+holding_place address [] = refl
+holding_place address (r ∷ rs) = whether (holds address r) (λ t. rw t) (λ t. rw t (holding_place address rs))
 
--- Where the search went past the last, none does.
-pub holding_past :
-    (address : ℕ) (rs : List Region) → length rs ≤ place_holding address rs → no_region address ≡ holding address rs
-unfolding place_holding holding keep
-holding_past address [] h = refl
-holding_past address (r ∷ rs) h =
-    whether (holds address r)
-    (λ t. absurd (omega (arith, rw t at h)))
-    (λ t. rw t (holding_past address rs (omega (arith, rw t at h))))
-
--- The same for eight regions, at the place i that was answered.
-module _ (address : ℕ) (rs : List Region) (i : ℕ) (all : length rs ≡ 8) (found : i ≡ place_holding address rs) where
-  eight_whole : take 8 rs ≡ rs
-  eight_whole = take_all 8 rs (omega (arith, all))
-
-  pub eight_place : (d : Region) → i < 8 → get_or rs i d ≡ holding address (take 8 rs)
-  eight_place d h = rw (eight_whole, found) (holding_place address rs d (omega (arith, found, all, h)))
-
-  pub eight_past : 8 ≤ i → no_region address ≡ holding address (take 8 rs)
-  eight_past h = rw eight_whole (holding_past address rs (omega (arith, found, all, h)))
+-- The same for eight regions.
+pub holding_at :
+    (address : ℕ) (rs : List Region) → length rs ≡ 8
+    → get_or rs (place_holding address rs) (no_region address) ≡ holding address (take 8 rs)
+holding_at address rs all = rw (take_all 8 rs (omega arith)) (holding_place address rs)

@@ -15,6 +15,9 @@ ghost use Rattle.mps.specs.Dump.{holding as holding_of};
 ghost use Rattle.regions.specs.Regions.{row_of, place_holding};
 
 use mps::{Region, layout};
+pub use rows::{Rows, again, of_dump};
+
+mod rows; // the regions of a dump, one behind the other
 
 // A record that is not filled.
 pub const BLANK: Region = Region {
@@ -25,6 +28,7 @@ pub const BLANK: Region = Region {
 };
 
 // The row that bytes begin with, of a region whose body is at `offset`.
+#[tactic(auto, unfolding(crate::specs::Regions::row_of))]
 pub fn row(s: &[u8], offset: usize) -> Region
     ensures { result ≡ row_of offset s.now }
 {
@@ -36,18 +40,11 @@ pub fn row(s: &[u8], offset: usize) -> Region
     }
 }
 
-// The bound is said because a caller sees a number, and not its type.
-fn wide(x: u32) -> u64
-    ensures { (result ≡ x) × (result < 4294967296) }
-{
-    x as u64
-}
-
-// Whether an address lies in so many bytes from a base on: plain numbers, so that the search below is nothing but a loop.
+// Whether an address lies in so many bytes from a base on.
 fn holds(base: u32, size: u32, address: u32) -> bool
     ensures { result ≡ (leb base address && ltb address (base + size)) }
 {
-    (base <= address) & (wide(address) < wide(base) + wide(size))
+    (base <= address) & (u64::from(address) < u64::from(base) + u64::from(size))
 }
 
 // "The list of regions is searched for the one that holds an address": the place of the first that does, or how many there
@@ -55,14 +52,9 @@ fn holds(base: u32, size: u32, address: u32) -> bool
 pub fn place_of(rs: &[Region], address: u32) -> usize
     ensures { result ≡ place_holding address rs.now }
 {
-    let mut i = 0;
-    while i < rs.len() {
-        if holds(rs[i].base, rs[i].size, address) {
-            return i;
-        }
-        i += 1;
-    }
-    i
+    rs.iter()
+        .position(|r| holds(r.base, r.size, address))
+        .unwrap_or(rs.len())
 }
 
 // The regions lent to that search.
@@ -74,17 +66,14 @@ pub fn place_in(rs: [Region; 8], address: u32) -> usize
 
 // The region at that place. Where none holds the address, one of no byte at that address, so that a table there has no
 // bytes.
+#[tactic(auto, using(crate::proofs::Search::holding_at))]
 pub fn holding(rs: [Region; 8], address: u32) -> Region
     ensures { result ≡ holding_of address (take 8 rs) }
 {
-    let i = place_in(rs, address);
-    if i < layout::REGIONS_MOST {
-        return rs[i];
-    }
-    Region {
-        kind: 0,
+    let none = Region {
         base: address,
-        offset: 0,
-        size: 0,
-    }
+        ..BLANK
+    };
+    let i = place_in(rs, address);
+    rs.get(i).copied().unwrap_or(none)
 }

@@ -1,20 +1,13 @@
--- The loop's invariant: the rows left answer as all of them do.
-use mathlib.Core.Path.{sym, ◌∙◌}
-use native.Mathlib.Omega.{arith}
-use Rattle.contents.proofs.Listed.{clash_end, clash_hit, clash_miss}
+-- The closure makes the test of the definition: `any_is`.
+use Rattle.std.proofs.Common.{rules, tests, ◌∙◌}
+use Rattle.std.proofs.lemmas.Iterator.Consumers.{YieldsList-from_first}
+use Rattle.std.proofs.lemmas.Iterator.Search.{any_from_yields_List}
+use Rattle.contents.specs.Steps.{clashing}
+use Rattle.contents.proofs.Listed.{any_is}
 use Rattle.contents.proofs.clashes.Goals as goal
 
-pub returns-then-clash : goal.returns-then-clash
-returns-then-clash c =
-    let l = c.loop-j in
-    let row = c.row.ensures in
-    clash_hit _ _ _ l.j l.invariant.0 (omega arith) row (sym c.clash.ensures ∙ c.if-clash.true)
-
-pub loop-j-preserved : goal.loop-j-preserved
-loop-j-preserved c =
-    let l = c.loop-j in
-    let row = c.row.ensures in
-    (clash_miss _ _ _ l.j l.invariant.0 (omega arith) row (sym c.clash.ensures ∙ c.if-clash.false), omega arith)
-
 pub returns : goal.returns
-returns c = clash_end _ _ _ c.loop-j.j c.loop-j.invariant.0 (omega arith)
+returns c =
+    let p = clashing c.args.r in
+    let left = c.args.behind.now in
+    any_from_yields_List p _ _ c.any.result c.any.ensures.ran (YieldsList-from_first (λ x. x) (λ s. s) left c.again.ensures) (λ x b q k. search (rules, tests)) ∙ any_is p left

@@ -1,53 +1,11 @@
--- The number of the table is the dump's, where the pointer names one.
-use mathlib.Core.Path.{sym, ◌∙◌}
-use native.Mathlib.Omega.{arith}
-use Rattle.dump.proofs.Laws.{pointed_refused, pointed_default, pointed_table, held_refused, held_accepted}
+-- The refusals that `?` passes on; the rest is found by the laws named on the function.
+use Rattle.dump.proofs.Ways.{passed_refused, passed_wrong}
 use Rattle.dump.proofs.read.Goals as goal
 
-pub slice_bounds-refusal-count : goal.slice_bounds-refusal-count
-slice_bounds-refusal-count c =
-    let find = c.find-found.ensures in
-    let told = c.in-Table.is in
-    let pointed = pointed_table _ _ _ _ _ _ (sym find ∙ told) in
-    omega (arith, pointed.order)
+pub returns-in_err-found : goal.returns-in_err-found
+returns-in_err-found c = passed_refused _ c.find.ensures c.in_err-found.was c.from_residual.ensures.1
 
-pub slice_bounds-refusal-start : goal.slice_bounds-refusal-start
-slice_bounds-refusal-start c =
-    let find = c.find-found.ensures in
-    let told = c.in-Table.is in
-    let pointed = pointed_table _ _ _ _ _ _ (sym find ∙ told) in
-    omega (arith, pointed.order)
-
-pub slice_bounds-refusal-end : goal.slice_bounds-refusal-end
-slice_bounds-refusal-end c =
-    let find = c.find-found.ensures in
-    let told = c.in-Table.is in
-    let pointed = pointed_table _ _ _ _ _ _ (sym find ∙ told) in
-    omega (arith, pointed.inside)
-
-pub returns-then-number-ne0 : goal.returns-then-number-ne0
-returns-then-number-ne0 c =
-    let find = c.find-found.ensures in
-    let told = c.in-Table.is in
-    let pointed = pointed_table _ _ _ _ _ _ (sym find ∙ told) in
-    held_refused _ _ (pointed.rules ∙ sym c.refusal-number.ensures) c.if-number-ne0.true
-
-pub returns-in-Refused : goal.returns-in-Refused
-returns-in-Refused c =
-    let find = c.find-found.ensures in
-    let told = c.in-Refused.is in
-    let number = pointed_refused _ _ (sym find ∙ told) in
-    held_refused _ _ number.0 (λ z. omega (arith, number, z))
-
-pub returns-in-Default : goal.returns-in-Default
-returns-in-Default c =
-    let find = c.find-found.ensures in
-    let told = c.in-Default.is in
-    held_accepted _ (pointed_default _ _ _ (sym find ∙ told)).0 (sym told ∙ find)
-
-pub returns-else-number-ne0 : goal.returns-else-number-ne0
-returns-else-number-ne0 c =
-    let find = c.find-found.ensures in
-    let told = c.in-Table.is in
-    let pointed = pointed_table _ _ _ _ _ _ (sym find ∙ told) in
-    held_accepted _ (pointed.rules ∙ sym c.refusal-number.ensures ∙ c.if-number-ne0.false) (sym told ∙ find)
+pub returns-in_err-judge-in-Table : goal.returns-in_err-judge-in-Table
+returns-in_err-judge-in-Table c =
+    let w = c.in_err-judge-in-Table.was in
+    passed_wrong _ c.find.ensures _ _ _ _ _ (rw c.in-Table.is at c.in_ok-found.was) c.judge.ensures w c.from_residual-in_err-judge-in-Table.ensures.1

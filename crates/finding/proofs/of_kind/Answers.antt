@@ -1,24 +1,16 @@
--- The loop's invariant: the regions left answer as all of them do.
-use native.Mathlib.Omega.{arith}
-use Rattle.contents.proofs.Listed.{rows_all}
-use Rattle.finding.proofs.Rows.{kind_end, kind_hit, kind_miss}
+-- The closure makes the test of the definition, of the regions that a sound dump lists.
+use Rattle.std.proofs.Common.{rules, tests, sym, ◌∙◌}
+use Rattle.std.proofs.lemmas.Iterator.Consumers.{YieldsList-from_first}
+use Rattle.std.proofs.lemmas.Iterator.Search.{find_from_yields_List}
+use Rattle.mps.specs.Dump.{of_kind}
+use Rattle.regions.specs.Walk.{listed}
+use Rattle.contents.proofs.Laws.{sound_listed}
+use Rattle.finding.proofs.Spots.{map_same}
 use Rattle.finding.proofs.of_kind.Goals as goal
-
-pub loop-i-init : goal.loop-i-init
-loop-i-init c = (rw (rows_all _ _ c.listed-count.ensures.0), omega arith, omega arith)
-
-pub returns-then-r-kind : goal.returns-then-r-kind
-returns-then-r-kind c =
-    let l = c.loop-i in
-    kind_hit _ _ _ l.offset l.i l.invariant.0 (omega arith) c.row-r.ensures c.if-r-kind.true
-
-pub loop-i-preserved : goal.loop-i-preserved
-loop-i-preserved c =
-    let l = c.loop-i in
-    let row = c.row-r.ensures in
-    (kind_miss _ _ _ l.offset l.i l.invariant.0 (omega arith) row c.if-r-kind.false, omega arith, omega arith)
 
 pub returns : goal.returns
 returns c =
-    let l = c.loop-i in
-    kind_end _ _ _ l.offset l.i l.invariant.0 (omega arith)
+    let a = c.args in
+    let chain = YieldsList-from_first (λ x. x) (λ s. s) (listed a.d.now) c.of_dump.ensures in
+    let found = find_from_yields_List (of_kind a.kind) _ _ c.find.result c.find.ensures.ran chain (λ x b q k. search (rules, tests)) in
+    rw (← sound_listed a.d.now c.requires) (sym (map_same c.find.result) ∙ found)

@@ -1,17 +1,13 @@
-use Prim.Native.Nat.{◌+◌, ◌-◌, ◌*◌, ◌≤◌}
-use mathlib.Core.Path.{◌≡◌}
-use Rattle.mps.specs.Layout.{row_length}
-use Rattle.mps.specs.Dump.{regions}
+use Rattle.std.proofs.Common.{◌≡◌, ◌+◌, ◌≤◌, length}
+use Rattle.std.specs.Iterator.Adapters.{enumerate_source, enumerate_count}
 use lib.Seq.{sets}
+use Rattle.mps.specs.Dump.{regions}
 use Rattle.regions.specs.Regions.{eight}
-use Rattle.contents.specs.Steps.{rows_left}
 use Rattle.finding.proofs.records.Given as goal
 
+-- With the regions left stored behind those that are, the records are what they are to be.
 abbrev pub invariant-loop-i : goal.invariant-loop-i
 invariant-loop-i l =
-    (sets l.rs l.i (rows_left l.d l.count l.offset l.i) ≡ eight (regions l.d))
-    × (l.i ≤ l.count)
-    × (l.offset ≤ 1 + row_length * l.count + l.i * 4294967296)
-
-abbrev pub decreases-loop-i : goal.decreases-loop-i
-decreases-loop-i l = l.count - l.i
+    let it = l.i-iterator in
+    (sets l.rs (enumerate_count it) (enumerate_source it) ≡ eight (regions l.d))
+    × (enumerate_count it + length (enumerate_source it) ≤ 8)

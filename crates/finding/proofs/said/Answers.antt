@@ -31,7 +31,7 @@ returns-then-number-ne0 c =
     let table = c.le32-table.ensures in
     let number = c.if-number-ne0.true in
     let a = c.args in
-    let byte = bytes_part a.place (a.place + 16) a.d.now (λ i. omega (arith, c.type_inv.d i)) 12 in
+    let byte = bytes_part a.spotted.place (a.spotted.place + 16) a.d.now (λ i. omega (arith, c.type_inv.d i)) 12 in
     tells_default _ pre.d_value pre.spots_at revision table number (omega arith) c.if-table-ne0.false byte
 
 pub returns-then-table-eq0 : goal.returns-then-table-eq0
@@ -68,6 +68,6 @@ returns c =
     let records = c.records.ensures in
     let region = c.holding-r.ensures in
     let a = c.args in
-    let byte = bytes_part a.place (a.place + 16) a.d.now (λ i. omega (arith, c.type_inv.d i)) 12 in
+    let byte = bytes_part a.spotted.place (a.spotted.place + 16) a.d.now (λ i. omega (arith, c.type_inv.d i)) 12 in
     let some = c.if-table-eq0.false in
     tells_table _ pre.d_value pre.spots_at revision table none records region some byte

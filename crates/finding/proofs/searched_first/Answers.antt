@@ -2,8 +2,8 @@
 use Rattle.finding.proofs.Spots.{first_ebda, first_base}
 use Rattle.finding.proofs.searched_first.Goals as goal
 
-pub returns-then-r-eq-EBDA : goal.returns-then-r-eq-EBDA
-returns-then-r-eq-EBDA c = first_ebda _ c.of_kind-r.ensures c.if-r-eq-EBDA.true
+pub returns-in-Some : goal.returns-in-Some
+returns-in-Some c = first_ebda _ c.of_kind.ensures c.in-Some.is
 
-pub returns : goal.returns
-returns c = first_base _ c.of_kind-r.ensures c.if-r-eq-EBDA.false c.of_kind.ensures
+pub returns-in-None : goal.returns-in-None
+returns-in-None c = first_base _ c.of_kind.ensures c.in-None.is c.of_kind-in-None.ensures

@@ -1,20 +1,29 @@
--- `search` meets its contract. The loop's invariant: what is left answers as the whole does.
-use native.Mathlib.Omega.{arith}
-use Rattle.pointers.proofs.Laws.{seeks_done, seeks_stop, seeks_next}
+-- What is left of the pieces answers as the whole does.
+use Rattle.pointers.proofs.Laws.{goes_part, goes_whole, goes_next, goes_done, seeks_done, seeks_stop, seeks_next}
 use Rattle.pointers.proofs.search.Goals as goal
-
-pub loop-at-init : goal.loop-at-init
-loop-at-init c = c.passed-at.ensures
 
 pub returns-then-good : goal.returns-then-good
 returns-then-good c =
-    let l = c.loop-at in
-    seeks_stop _ l.at l.invariant (omega arith) c.good.ensures c.if-good.true
+    let st = c.in-Some.ensures.steps in
+    let i = c.loop-i.invariant in
+    let s = c.args.s.now in
+    let p = c.in-Some.p.now in
+    let n = c.passed-from.result in
+    rw st.1
+    (seeks_stop s _ i.2 (goes_whole 16 n s _ i p _ st.0.1.0 st.0.1.1) p (goes_part 16 n s _ i p _ st.0.1.0 st.0.1.1) c.good.ensures c.if-good.true)
 
-pub loop-at-preserved : goal.loop-at-preserved
-loop-at-preserved c =
-    let l = c.loop-at in
-    seeks_next _ l.at l.invariant (omega arith) c.good.ensures c.if-good.false
+pub loop-i-preserved : goal.loop-i-preserved
+loop-i-preserved c =
+    let st = c.in-Some.ensures.steps in
+    let i = c.loop-i.invariant in
+    let s = c.args.s.now in
+    let p = c.in-Some.p.now in
+    let n = c.passed-from.result in
+    goes_next 16 n s _ i p _ st.0.1.0 st.0.1.1 st.0.0 st.2
+    (seeks_next s _ i.2 (goes_whole 16 n s _ i p _ st.0.1.0 st.0.1.1) p (goes_part 16 n s _ i p _ st.0.1.0 st.0.1.1) c.good.ensures c.if-good.false)
 
 pub returns : goal.returns
-returns c = seeks_done _ c.loop-at.at c.loop-at.invariant (omega arith)
+returns c =
+    let i = c.loop-i.invariant in
+    let n = c.passed-from.result in
+    seeks_done c.args.s.now _ i.2 (goes_done 16 n c.args.s.now _ i c.in-None.ensures.steps.0.1.0)
