@@ -1,10 +1,9 @@
 -- The list of parents, and that the climb over marks, parents and what is said below is mps's `climb`. Assumes nothing.
-use Prim.Native.Nat.{ℕ, zero, suc, ◌+◌, ◌-◌, ◌*◌, ◌/◌, ◌%◌, ◌<◌}
+use Prim.Native.Nat.{ℕ, zero, suc, ◌+◌, ◌-◌, ◌≤◌, ◌<◌}
 use mathlib.Core.Path.{◌≡◌, refl, ap, sym, ◌∙◌}
 use mathlib.Core.Bool.{Bool, true, false, cond, true≢false, false≢true}
 use mathlib.Core.Logic.{◌⊎◌, inl, inr}
 use mathlib.Core.List.{List, [], ◌∷◌}
-use native.Mathlib.Numerals.{sub-one}
 use native.Mathlib.Omega.{arith}
 use lib.ListN.{length, set, length-set}
 use lib.Seq.{get_or-set_same, get_or-set_other}
@@ -15,14 +14,14 @@ use Rattle.mps.specs.Layout.{Entry, extended_bus, parent_bus}
 use Rattle.mps.specs.Rules.{on_bus, links, parents_of}
 use Rattle.mps.specs.Addresses.{takes_away, covers_or_adds, has_entry, subtractive, Say, says, answer, claim_beside, silence_beside, unclaimed, leaves, climb}
 use Rattle.mps.specs.declared.Seen.{Seen}
-use Rattle.mps.specs.declared.Seen.TheVariants.{No, Yes, Undeclared, Refused}
+use Rattle.mps.specs.declared.Seen.TheVariants.{No, Yes, Undeclared}
 use Rattle.laws.proofs.Tests.{whether, or_parts}
 use Rattle.laws.proofs.Small.{Bytes, Small, small_none, small_more, bytes_set}
 use Rattle.laws.proofs.Claims.{unclaimed_all}
 use Rattle.laws.proofs.Circle.{parents_of_here, parents_of_skip}
 use Rattle.marks.specs.Marks.{meaning, parented}
 use Rattle.marks.proofs.Below.{spoken}
-use Rattle.addresses.specs.Climbing.{left_by, climb_in, narrowed, instead, ended}
+use Rattle.addresses.specs.Climbing.{left_by, climb_in, narrowed, instead}
 
 -- ---- Parents
 
@@ -124,20 +123,11 @@ own_answer (suc (suc zero)) climbed x y n = absurd (n refl)
 own_answer (suc (suc (suc zero))) climbed x y n = refl
 own_answer (suc (suc (suc (suc mark)))) climbed x y n = refl
 
--- A mark is a byte, so that the links are told from it.
-pub ended_at : (mark climbed : ℕ) → mark < 256 → ended (climbed * 256 + mark) ≡ answer (meaning mark) climbed (Undeclared climbed)
-unfolding ended
-ended_at mark climbed h =
-    let low : (climbed * 256 + mark) % 256 ≡ mark = omega arith in
-    let high : (climbed * 256 + mark) / 256 ≡ climbed = omega arith in
-    rw (low, high)
-
 -- Where the mark that stands for yes is that of yes, an answer is what it is.
 pub instead_yes : (x : Seen) → instead 3 x ≡ x
 instead_yes (No k) = refl
 instead_yes (Yes k) = refl
 instead_yes (Undeclared k) = refl
-instead_yes (Refused n) = refl
 
 -- To narrow the mark that stands for yes, and take the parent's answer, is to keep it, and take what is left of that answer.
 instead_left : (kept said : ℕ) (x : Seen) → instead (narrowed kept said) x ≡ instead kept (left_by said x)
@@ -145,11 +135,9 @@ instead_left kept zero x = refl
 instead_left kept (suc zero) (No k) = refl
 instead_left kept (suc zero) (Yes k) = refl
 instead_left kept (suc zero) (Undeclared k) = refl
-instead_left kept (suc zero) (Refused n) = refl
 instead_left kept (suc (suc said)) (No k) = refl
 instead_left kept (suc (suc said)) (Yes k) = refl
 instead_left kept (suc (suc said)) (Undeclared k) = refl
-instead_left kept (suc (suc said)) (Refused n) = refl
 
 -- The end by a mark, where another stands for yes.
 module _ (mark kept climbed : ℕ) where
@@ -170,35 +158,38 @@ narrowed_claimed kept zero n m = absurd (n refl)
 narrowed_claimed kept (suc zero) n m = absurd (m refl)
 narrowed_claimed kept (suc (suc said)) n m = refl
 
--- The steps of the climb: no bus is left, the bus asks its parent, or it does not.
-module _ (marks parents below : List ℕ) (bus at climbed kept : ℕ) (b : at ≡ bus) {r : Seen} where
-  pub climb_last : (left : ℕ) → left ≡ 0 → r ≡ instead kept (answer (meaning (byte marks at)) climbed (Undeclared climbed))
-      → r ≡ instead kept (climb_in left marks parents below bus climbed)
+-- The steps of the climb: the bus asks its parent, no bus is left, or it does not ask.
+module _ (marks parents below : List ℕ) where
+  pub climb_up : (left bus kept climbed up said : ℕ) → climbed < left → byte marks bus ≡ 2 → up ≡ byte parents bus → said ≡ narrowed kept (byte below up)
+      → instead said (climb_in (left - (climbed + 1)) marks parents below up (climbed + 1)) ≡ instead kept (climb_in (left - climbed) marks parents below bus climbed)
   unfolding climb_in
-  climb_last left z e = e ∙ rw (z, b)
+  climb_up left bus kept climbed up said h m u n =
+      let more : left - climbed ≡ suc (left - (climbed + 1)) = omega (arith, h) in
+      rw (more, climb_in, m, n, u) (instead_left kept (byte below (byte parents bus)) _)
 
-  pub climb_up : (left up at_up kept-up : ℕ) → (left ≡ 0 → ⊥) → byte marks at ≡ 2 → up ≡ byte parents at → at_up ≡ up
-      → kept-up ≡ narrowed kept (byte below at_up)
-      → r ≡ instead kept-up (climb_in (left - 1) marks parents below up (climbed + 1))
-      → r ≡ instead kept (climb_in left marks parents below bus climbed)
-  unfolding climb_in
-  climb_up zero up at_up kept-up z m u a n e = absurd (z refl)
-  climb_up (suc left) up at_up kept-up z m u a n e =
-      rw (← b, m, ← u) ((rw (n, a, sub-one (suc left)) at e) ∙ instead_left kept (byte below up) _)
+  -- A bus that does not ask, or has none left to ask, answers by itself: by the mark for yes where it sees the address.
+  module _ (left bus kept climbed : ℕ) (e : (left ≤ climbed) ⊎ (byte marks bus ≡ 2 → ⊥)) where
+    climb_own : (k : ℕ) → (k ≡ 0) ⊎ (byte marks bus ≡ 2 → ⊥) → climb_in k marks parents below bus climbed ≡ answer (meaning (byte marks bus)) climbed (Undeclared climbed)
+    unfolding climb_in
+    climb_own zero e = refl
+    climb_own (suc k) (inl z) = absurd (omega (arith, z))
+    climb_own (suc k) (inr n) = own_answer (byte marks bus) climbed _ _ n
 
-  pub climb_own : (left : ℕ) → (left ≡ 0 → ⊥) → (byte marks at ≡ 2 → ⊥)
-      → r ≡ instead kept (answer (meaning (byte marks at)) climbed (Undeclared climbed))
-      → r ≡ instead kept (climb_in left marks parents below bus climbed)
-  unfolding climb_in
-  climb_own zero z m e = absurd (z refl)
-  climb_own (suc left) z m e = e ∙ rw (← b) (ap (instead kept) (own_answer (byte marks at) climbed _ _ m))
+    at_end : (left - climbed ≡ 0) ⊎ (byte marks bus ≡ 2 → ⊥)
+    at_end = elim e [ inl h ↦ inl (omega (arith, h)) | inr n ↦ inr n ]
+
+    pub climb_yes : byte marks bus ≡ 3 → answer (meaning kept) climbed (Undeclared climbed) ≡ instead kept (climb_in (left - climbed) marks parents below bus climbed)
+    climb_yes s = ends_yes (byte marks bus) kept climbed s ∙ ap (instead kept) (sym (climb_own (left - climbed) at_end))
+
+    pub climb_no : (byte marks bus ≡ 3 → ⊥)
+        → answer (meaning (byte marks bus)) climbed (Undeclared climbed) ≡ instead kept (climb_in (left - climbed) marks parents below bus climbed)
+    climb_no s = ends_own (byte marks bus) kept climbed s ∙ ap (instead kept) (sym (climb_own (left - climbed) at_end))
 
 -- What is left of an answer by what is said below, where that tells whether one claims the address and whether one is silent.
 left_spoken : (claim silence : Bool) (x : Seen) → left_by (spoken claim silence) x ≡ unclaimed claim silence x
 left_spoken true silence (No k) = refl
 left_spoken true silence (Yes k) = refl
 left_spoken true silence (Undeclared k) = refl
-left_spoken true silence (Refused n) = refl
 left_spoken false true x = refl
 left_spoken false false x = sym (unclaimed_all x)
 

@@ -5,18 +5,21 @@ use mathlib.Core.Bool.{true, false, or-true}
 use mathlib.Core.List.{List, [], ◌∷◌}
 use native.Mathlib.Omega.{arith}
 use lib.ListN.{length}
+use Rattle.std.specs.Prelude.{Result, Ok, Err}
 use borrow.Author.Tests.{lt-ltb, le-ltb}
 use Rattle.mps.specs.Words.{byte, among, each, keep, part, first}
 use Rattle.mps.specs.Refusals.{Rule, ◌when◌, refusal, query_number}
-use Rattle.mps.specs.Answers.{seen_of}
+use Rattle.mps.specs.Reasons.{refusal_numbered}
 use Rattle.mps.specs.Layout.{of_type, bus_type, mapping_type, modifier_type, mapping_size, link_size, entry_size, space_kind_most, base_entries, extended_entries}
 use Rattle.mps.specs.Rules.{is_listed, ids_of, links, parents_of}
 use Rattle.mps.specs.Sections.{rows}
-use Rattle.mps.specs.Judge.{table_rules, table_refusal}
+use Rattle.mps.specs.Judge.{table_rules, table_refusal, examined}
 use Rattle.mps.specs.Addresses.{says, seen_by, wrong_space, address_rules, seen}
 use Rattle.mps.specs.declared.Sections.{Sections}
-use Rattle.mps.specs.declared.Seen.{Seen}
-use Rattle.mps.specs.declared.Seen.TheVariants.{Undeclared, Refused}
+use Rattle.mps.specs.declared.Seen.TheVariants.{Undeclared}
+use Rattle.mps.specs.declared.refusals.Refusal.{Refusal}
+use Rattle.mps.specs.declared.refusals.Refusal.TheVariants.{Query}
+use Rattle.laws.proofs.Answers.{answered_err}
 use Rattle.laws.proofs.Lists.{among_none, zeros_at}
 use Rattle.laws.proofs.Small.{bytes_part, small_rows}
 use Rattle.laws.proofs.Rows.{rows_short}
@@ -24,7 +27,7 @@ use Rattle.laws.proofs.Refusals.{first_some, refusal_append, refusal_stop}
 use Rattle.accepted.proofs.Sound.{entries_most}
 use Rattle.accepted.proofs.Obeyed.{obeyed}
 use Rattle.judge.specs.Placed.{Placed}
-use Rattle.judge.proofs.Laws.{placed_buses}
+use Rattle.judge.proofs.Laws.{refused_table, placed_buses}
 use Rattle.marks.specs.Marks.{meaning, nothing, marked, all_marked, parented}
 use Rattle.marks.proofs.Marks.{marked_says, length_nothing}
 use Rattle.marks.proofs.Below.{said_others}
@@ -92,10 +95,6 @@ module _ (t : List ℕ) (p : Sections) (placed : Placed t p) (a : table_refusal 
 
 -- ---- The query: the table's own number, then 24
 
-refused_of : (n : ℕ) (x : Seen) → (n ≡ 0 → ⊥) → Refused n ≡ seen_of n x
-refused_of zero x z = absurd (z refl)
-refused_of (suc n) x z = refl
-
 module _ (t : List ℕ) (bus kind address : ℕ) where
   asked_rules : List Rule
   asked_rules = query_number when wrong_space t bus kind ∷ []
@@ -104,24 +103,26 @@ module _ (t : List ℕ) (bus kind address : ℕ) where
   unfolding address_rules table_refusal table_rules asked_rules among each
   seen_number = refusal_append (table_rules t) asked_rules refl
 
-  pub refused_seen : (n : ℕ) → n ≡ table_refusal t → (n ≡ 0 → ⊥) → Refused n ≡ seen t bus kind address
+  pub refused_seen : {found : Result Sections Refusal} {r : Refusal} → found ≡ examined t → found ≡ Err r → Err r ≡ seen t bus kind address
   unfolding seen
-  refused_seen n e z = rw (seen_number, ← e, first_some) (refused_of n _ z)
+  refused_seen e k =
+      let g = refused_table t e k in
+      rw (seen_number, first_some (table_refusal t) _ g.0) (answered_err (table_refusal t) _ g.0 g.1)
 
-  pub seen_24 : table_refusal t ≡ 0 → wrong_space t bus kind ≡ true → Refused query_number ≡ seen t bus kind address
-  unfolding seen asked_rules
+  pub seen_24 : table_refusal t ≡ 0 → wrong_space t bus kind ≡ true → Err Query ≡ seen t bus kind address
+  unfolding seen asked_rules refusal_numbered
   seen_24 a q = rw (seen_number, a, refusal_stop query_number [] q)
 
   -- The question's two faults.
-  pub seen_kind : table_refusal t ≡ 0 → space_kind_most < kind → Refused query_number ≡ seen t bus kind address
+  pub seen_kind : table_refusal t ≡ 0 → space_kind_most < kind → Err Query ≡ seen t bus kind address
   unfolding wrong_space
   seen_kind a k = seen_24 a (simp (lt-ltb space_kind_most kind k, or-true))
 
-  pub seen_unlisted : table_refusal t ≡ 0 → is_listed (base_entries t) bus ≡ false → Refused query_number ≡ seen t bus kind address
+  pub seen_unlisted : table_refusal t ≡ 0 → is_listed (base_entries t) bus ≡ false → Err Query ≡ seen t bus kind address
   unfolding wrong_space
   seen_unlisted a l = seen_24 a (rw l)
 
   pub seen_answered : table_refusal t ≡ 0 → is_listed (base_entries t) bus ≡ true → kind ≤ space_kind_most
-      → seen_by t bus kind address ≡ seen t bus kind address
+      → Ok (seen_by t bus kind address) ≡ seen t bus kind address
   unfolding seen asked_rules refusal wrong_space
   seen_answered a l k = rw (seen_number, a, l, le-ltb space_kind_most kind k)

@@ -1,4 +1,3 @@
 pub mod Links
-pub mod Refuses
 pub mod Climbs
 pub mod Laws

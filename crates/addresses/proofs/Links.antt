@@ -7,7 +7,7 @@ use native.Mathlib.Omega.{arith}
 use lib.ListN.{length, drop}
 use Rattle.mps.specs.Words.{among, each, keep, head}
 use Rattle.mps.specs.Refusals.{refusal}
-use Rattle.mps.specs.Answers.{seen_of, links_of}
+use Rattle.mps.specs.Answers.{answered, links_in, links_of}
 use Rattle.mps.specs.Layout.{Entry, of_type, bus_type, id_of, base_entries, extended_entries}
 use Rattle.mps.specs.Rules.{ids_of, links, parents_of}
 use Rattle.mps.specs.Judge.{table_rules, table_refusal}
@@ -20,19 +20,19 @@ use Rattle.laws.proofs.Refusals.{refusal_append, first_none}
 use Rattle.laws.proofs.Small.{Bytes}
 use Rattle.accepted.proofs.Sound.{entries_most}
 
-links_answer : (s : Say) (k n : ℕ) (above : Seen) → k ≤ n → links_of above ≤ n → links_of (answer s k above) ≤ n
+links_answer : (s : Say) (k n : ℕ) (above : Seen) → k ≤ n → links_in above ≤ n → links_in (answer s k above) ≤ n
 links_answer Say.no k n above h g = h
 links_answer Say.yes k n above h g = h
 links_answer Say.parent k n above h g = g
 links_answer Say.undeclared k n above h g = h
 
 -- "The earlier steps and the link count stay.": an answer is amended, and not its links.
-pub links_leaves : (xs : List Entry) (up bus kind address : ℕ) (above : Seen) → links_of (leaves xs up bus kind address above) ≡ links_of above
+pub links_leaves : (xs : List Entry) (up bus kind address : ℕ) (above : Seen) → links_in (leaves xs up bus kind address above) ≡ links_in above
 unfolding leaves
 links_leaves xs up bus kind address above =
-    unclaimed_cases (λ x. links_of x ≡ links_of above) _ _ above refl (λ k e. rw e) (λ k e. rw e)
+    unclaimed_cases (λ x. links_in x ≡ links_in above) _ _ above refl (λ k e. rw e) (λ k e. rw e)
 
-pub links_climb : (left : ℕ) (xs : List Entry) (bus kind address k : ℕ) → links_of (climb left xs bus kind address k) ≤ k + left
+pub links_climb : (left : ℕ) (xs : List Entry) (bus kind address k : ℕ) → links_in (climb left xs bus kind address k) ≤ k + left
 unfolding climb
 links_climb zero xs bus kind address k = links_answer (says xs bus kind address) k (k + 0) (Undeclared k) (omega arith) (omega arith)
 links_climb (suc left) xs bus kind address k =
@@ -40,13 +40,13 @@ links_climb (suc left) xs bus kind address k =
     links_answer (says xs bus kind address) k (k + suc left) _ (omega arith)
     (omega (arith, links_leaves xs up bus kind address (climb left xs up kind address (k + 1)), links_climb left xs up kind address (k + 1)))
 
-links_by : (t : List ℕ) (bus kind address : ℕ) → links_of (seen_by t bus kind address) ≤ length (ids_of bus_type (base_entries t)) - 1
+links_by : (t : List ℕ) (bus kind address : ℕ) → links_in (seen_by t bus kind address) ≤ length (ids_of bus_type (base_entries t)) - 1
 unfolding seen_by
 links_by t bus kind address =
     let left = length (ids_of bus_type (base_entries t)) - 1 in
     rw (zero-add left) at (links_climb left (extended_entries t) bus kind address 0)
 
-links_of_lem : (n k : ℕ) (r : Seen) → links_of r ≤ k → links_of (seen_of n r) ≤ k
+links_of_lem : (n k : ℕ) (r : Seen) → links_in r ≤ k → links_of (answered n r) ≤ k
 links_of_lem zero k r h = h
 links_of_lem (suc n) k r h = omega arith
 
@@ -71,7 +71,7 @@ pub links_most : (t : List ℕ) (bus kind address : ℕ) → Bytes t → links_o
 unfolding seen
 links_most t bus kind address b = cases (refusal (address_rules t bus kind)) refl
   where
-    cases : (n : ℕ) → refusal (address_rules t bus kind) ≡ n → links_of (seen_of n (seen_by t bus kind address)) < 65536
+    cases : (n : ℕ) → refusal (address_rules t bus kind) ≡ n → links_of (answered n (seen_by t bus kind address)) < 65536
     cases zero e =
         omega (arith, links_by t bus kind address, ids_fewer bus_type (base_entries t), entries_most t b (table_none t bus kind e))
     cases (suc n) e = omega arith

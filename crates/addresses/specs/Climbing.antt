@@ -1,11 +1,11 @@
 -- The climb over the three lists that crate marks gathers, of marks, of parents and of what is said below each: it goes from
 -- bus to bus and not over the entries again. That it answers as mps's `climb` does is proved: proofs/Laws.antt.
-use Rattle.std.specs.Prelude.{ℕ, zero, suc, ◌+◌, ◌/◌, ◌%◌, true, false, List}
+use Rattle.std.specs.Prelude.{ℕ, zero, suc, ◌+◌, true, false, List}
 use Rattle.mps.specs.Words.{byte}
 use Rattle.mps.specs.Layout.{Entry}
 use Rattle.mps.specs.Addresses.{answer, unclaimed}
 use Rattle.mps.specs.declared.Seen.{Seen}
-use Rattle.mps.specs.declared.Seen.TheVariants.{No, Yes, Undeclared, Refused}
+use Rattle.mps.specs.declared.Seen.TheVariants.{No, Yes, Undeclared}
 use Rattle.marks.specs.Marks.{meaning, nothing, all_marked, parented, said_below}
 
 -- What is left of a parent's answer by what is said below it: all, or what mps's `unclaimed` leaves where one is silent or
@@ -41,8 +41,3 @@ abbrev pub instead : ℕ → Seen → Seen
 instead kept (Yes climbed) = answer (meaning kept) climbed (Undeclared climbed)
 instead kept (No climbed) = No climbed
 instead kept (Undeclared climbed) = Undeclared climbed
-instead kept (Refused n) = Refused n
-
--- The answer at the end of a climb that is told as one number: the links climbed, and in the low byte the mark of the bus.
-unfoldable pub ended : ℕ → Seen
-ended end = answer (meaning (end % 256)) (end / 256) (Undeclared (end / 256))
