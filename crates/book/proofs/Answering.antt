@@ -25,7 +25,7 @@ use Rattle.mps.specs.declared.Booked.{Booked}
 use Rattle.mps.specs.declared.refusals.Refusal.{Refusal}
 use Rattle.mps.specs.declared.refusals.Refusal.TheVariants.{RoomTooSmall, BadBook, NotLatest}
 use Rattle.laws.proofs.Answers.{answered_ok, answered_err, told, given_ok, given_err}
-use Rattle.judge.proofs.Verdict.{asked_none, asked_some}
+pub use Rattle.judge.proofs.Verdict.{asked_none, asked_some}
 use Rattle.laws.proofs.Tests.{whether}
 use Rattle.laws.proofs.Refusals.{number}
 use Rattle.laws.proofs.Lent.{lent_early, left_kept, fit_put, fit_short, fit_late}
@@ -47,7 +47,7 @@ abbrev of_rows : BookLayout → List ℕ → Booked
 of_rows l s = record { rows = length (rows_of l s); size = length (book_of l (rows_of l s)) }
 
 module _ (l : BookLayout) (s : List ℕ) where
-  bad_number : good_book l s ≡ false → book_refusal l s ≡ 27
+  pub bad_number : good_book l s ≡ false → book_refusal l s ≡ 27
   unfolding book_refusal book_rules bad_book refusal
   bad_number f = rw f
 

@@ -1,5 +1,6 @@
 -- 28 and 29, as the code tests them, and what the room is like where neither is given. Assumes nothing.
 use Rattle.std.proofs.Common.{◌≡◌, ℕ, ◌+◌, ◌*◌, ◌≤◌, true, false, ◌||◌, ltb, List, [], ◌∷◌, length, replicate, sym, ◌∙◌, arith, eq-eqb, ne_eqb}
+use Rattle.std.specs.Prelude.{Result, Ok, Err}
 use mathlib.Core.Bool.{or-true}
 use lib.ListN.{length-replicate}
 use lib.Seq.{sets, length-sets}
@@ -9,6 +10,11 @@ use Rattle.mps.specs.Layout.{book_most, book_head, book_row, edition_most}
 use Rattle.mps.specs.Book.{BookLayout, layout1, latest, bodies_at, book_of, rows_of}
 use Rattle.mps.specs.Saving.{Addition, new_row, grown_book, not_latest, book_full, addition_rules}
 use Rattle.laws.proofs.Refusals.{refusal_stop, refusal_go, refusal_end}
+use Rattle.mps.specs.Reasons.{refusal_numbered}
+use Rattle.mps.specs.Answers.{answered}
+use Rattle.mps.specs.declared.refusals.Refusal.{Refusal}
+use Rattle.mps.specs.declared.refusals.Refusal.TheVariants.{NotLatest, BookFull}
+use Rattle.laws.proofs.Answers.{answered_ok, told}
 use Rattle.pages.specs.Pages.{Measured}
 use Rattle.pages.proofs.Bytes.{length_book}
 use Rattle.pages.proofs.Good.{book_inside, book_most_lem}
@@ -81,18 +87,24 @@ module _ (s : List ℕ) (m began more : ℕ) {now : ℕ} (e : now ≡ latest m (
   abbrev asked : Addition
   asked = record { machine = m; began = began; body = replicate more 0 }
 
-  pub tested_28 : (now ≡ began → ⊥) → 28 ≡ addition_number s m began more
-  unfolding addition_number addition_rules not_latest
-  tested_28 h = sym (refusal_stop 28 _ (rw (← e, ne_eqb now began h)))
+  abbrev result : Result (Unit {0}) Refusal
+  result = answered (addition_number s m began more) (tt {0})
+
+  pub tested_28 : (now ≡ began → ⊥) → Err NotLatest ≡ result
+  unfolding addition_number addition_rules not_latest refusal_numbered
+  tested_28 h = let n : 28 ≡ addition_number s m began more = sym (refusal_stop 28 _ (rw (← e, ne_eqb now began h))) in told (tt {0}) n
 
   module _ (same : now ≡ began) where
     number_29 : refusal (29 when book_full layout1 s asked ∷ []) ≡ addition_number s m began more
     unfolding addition_number addition_rules not_latest
     number_29 = sym (refusal_go 28 _ (rw (← e, eq-eqb now began same)))
 
-    pub tested_last : began ≡ edition_most → 29 ≡ addition_number s m began more
-    unfolding book_full
-    tested_last h = sym (refusal_stop 29 [] (simp (sym e, eq-eqb now edition_most (same ∙ h), or-true))) ∙ number_29
+    pub tested_last : began ≡ edition_most → Err BookFull ≡ result
+    unfolding book_full refusal_numbered
+    tested_last h =
+        let n : 29 ≡ addition_number s m began more =
+        sym (refusal_stop 29 [] (simp (sym e, eq-eqb now edition_most (same ∙ h), or-true))) ∙ number_29 in
+        told (tt {0}) n
 
     module _ {size : ℕ} (ends : size ≡ length (book_of layout1 (rows_of layout1 s))) where
       full_is : length (grown_book layout1 s asked) ≡ size + book_row 2 + more
@@ -100,15 +112,17 @@ module _ (s : List ℕ) (m began more : ℕ) {now : ℕ} (e : now ≡ latest m (
 
       pub tested_full :
           (ltb book_most (size + book_row 2 + more) || ltb (length s) (size + book_row 2 + more)) ≡ true
-          → 29 ≡ addition_number s m began more
-      unfolding book_full too_small
-      tested_full h = sym (refusal_stop 29 [] (rw (full_is, h))) ∙ number_29
+          → Err BookFull ≡ result
+      unfolding book_full too_small refusal_numbered
+      tested_full h =
+          let n : 29 ≡ addition_number s m began more = sym (refusal_stop 29 [] (rw (full_is, h))) ∙ number_29 in
+          told (tt {0}) n
 
       pub tested_fits :
           (began ≡ edition_most → ⊥)
           → (ltb book_most (size + book_row 2 + more) || ltb (length s) (size + book_row 2 + more)) ≡ false
-          → 0 ≡ addition_number s m began more
+          → Ok tt ≡ result
       unfolding book_full too_small
       tested_fits k h =
           let none : book_full layout1 s asked ≡ false = rw (full_is, h, ← e, ne_eqb now edition_most (λ q. k (sym same ∙ q))) in
-          sym (refusal_go 29 [] none ∙ refusal_end) ∙ number_29
+          answered_ok (addition_number s m began more) tt (sym number_29 ∙ refusal_go 29 [] none ∙ refusal_end)
