@@ -134,7 +134,7 @@ seen_climbed t bus kind address a l k =
     let left = length (ids_of bus_type es) - 1 in
     let o = (obeyed t a).parents in
     let enough = seen_enough es xs o.listed o.rising bus l kind address 1 in
-    (seen_answered t bus kind address a l k,
+    (sym (seen_answered t bus kind address a l k),
     rw (← enough)
     (climbed t bus kind address (left + 1) _ (way xs kind address (left + 1) bus 0)
     (rw enough (omega (arith, links_climb left xs bus kind address 0)))))
@@ -192,7 +192,7 @@ pub parent_answers : (t : List ℕ) (bus kind address : ℕ) → table_refusal t
 parent_answers t bus kind address a k e =
     let xs = extended_entries t in
     let o = (obeyed t a).parents in
-    seen_answered t (parent_of t bus) kind address a (parent_listed (base_entries t) (links xs) bus o.listed (parent_linked xs bus kind address e)) k
+    sym (seen_answered t (parent_of t bus) kind address a (parent_listed (base_entries t) (links xs) bus o.listed (parent_linked xs bus kind address e)) k)
 
 -- "first that applies", of an accepted table, a listed bus and a kind: no, yes, the parent's answer, no, else undeclared. Of the
 -- parent's answer, as ask 5 amends it there, what the other buses with that parent leave.
@@ -207,7 +207,7 @@ seen_says t bus kind address a l k =
     let left = length (ids_of bus_type es) - 1 in
     let up = head bus (parents_of (links xs) bus) in
     let o = (obeyed t a).parents in
-    seen_answered t bus kind address a l k
+    sym (seen_answered t bus kind address a l k)
     ∙ ap Ok (sym (seen_enough es xs o.listed o.rising bus l kind address 1)
     ∙ rw (add-one left) (ap (λ x. answer (says xs bus kind address) 0 (leaves xs up bus kind address x)) (climb_onward left xs up kind address 0)))
 
@@ -216,8 +216,8 @@ seen_says t bus kind address a l k =
 module _ (t : List ℕ) (bus kind address : ℕ) where
   -- A refusal is answered with its number.
   pub seen_refused : (r : Refusal) → (seen t bus kind address ≡ Err r) ↔ (refusal (address_rules t bus kind) ≡ number_of_refusal r)
-  unfolding seen
-  seen_refused r = err_exactly (refusal (address_rules t bus kind)) _ r (known address_numbers refl (address_numbered t bus kind address).known)
+  unfolding seen any among each
+  seen_refused r = err_exactly (refusal (address_rules t bus kind)) _ r (known (refusal (address_rules t bus kind)) address_numbers refl (address_numbered t bus kind address).known)
 
   -- Answered: no row is so.
   pub address_none : (refusal (address_rules t bus kind) ≡ 0) ↔ (any so (address_rules t bus kind) ≡ false)

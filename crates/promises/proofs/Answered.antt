@@ -27,10 +27,10 @@ within n (x ∷ xs) ys h a =
     back true e = refl
     back false e = absurd (true≢false e)
 
-pub known : {n : ℕ} (numbers : List ℕ)
+pub known : (n : ℕ) (numbers : List ℕ)
     → any (λ (m : ℕ). not (among m (0 ∷ each number_of_refusal refusals))) (0 ∷ numbers) ≡ false
     → among n (0 ∷ numbers) ≡ true → Known n
-known {n} numbers h a = within n (0 ∷ numbers) (0 ∷ each number_of_refusal refusals) h a
+known n numbers h a = within n (0 ∷ numbers) (0 ∷ each number_of_refusal refusals) h a
 
 -- 23 comes with the inner number, every other one by itself.
 pub edited_number : (numbers : List ℕ) (n inner : ℕ)

@@ -52,8 +52,8 @@ module _ (l : BookLayout) (s : List ℕ) where
   book_numbered = one_of (book_refusal l s) refl book_among
 
   pub book_number : number_of (booked_numbers (booked l s)) ≡ book_refusal l s
-  unfolding booked
-  book_number = answered_number _ (book_refusal l s) _ (known book_numbers refl book_numbered.known)
+  unfolding booked any among each
+  book_number = answered_number _ (book_refusal l s) _ (known (book_refusal l s) book_numbers refl book_numbered.known)
 
   module _ (machine : ℕ) where
     pub latest_numbered : OneOf (λ n. answered n (latest machine (rows_of l s))) (book_refusal l s) book_numbers (latest_told l s machine)
@@ -61,8 +61,8 @@ module _ (l : BookLayout) (s : List ℕ) where
     latest_numbered = one_of (book_refusal l s) refl book_among
 
     pub latest_number : number_of (latest_numbers (latest_told l s machine)) ≡ book_refusal l s
-    unfolding latest_told
-    latest_number = answered_number _ (book_refusal l s) _ (known book_numbers refl latest_numbered.known)
+    unfolding latest_told any among each
+    latest_number = answered_number _ (book_refusal l s) _ (known (book_refusal l s) book_numbers refl latest_numbered.known)
 
   module _ (machine edition : ℕ) where
     pub body_numbered :
@@ -75,8 +75,8 @@ module _ (l : BookLayout) (s : List ℕ) where
     body_numbered = one_of (edition_refusal l s machine edition) refl (refusal_among (edition_rules l s machine edition))
 
     pub body_number : number_of (body_numbers (body_told l s machine edition)) ≡ edition_refusal l s machine edition
-    unfolding body_told
-    body_number = answered_number _ (edition_refusal l s machine edition) _ (known edition_numbers refl body_numbered.known)
+    unfolding body_told any among each
+    body_number = answered_number _ (edition_refusal l s machine edition) _ (known (edition_refusal l s machine edition) edition_numbers refl body_numbered.known)
 
   module _ (room : List ℕ) where
     pub history_numbered : OneOf (λ n. answered n (length (rows_of l s))) (history_refusal l s room) history_numbers (history_told l s room)
@@ -84,17 +84,17 @@ module _ (l : BookLayout) (s : List ℕ) where
     history_numbered = one_of (history_refusal l s room) refl (refusal_among (room_rules (book_rules l s) (too_small (length (history_of l s)) room)))
 
     pub history_number : number_of (lent_numbers (history_told l s room)) ≡ history_refusal l s room
-    unfolding history_told
-    history_number = answered_number _ (history_refusal l s room) _ (known history_numbers refl history_numbered.known)
+    unfolding history_told any among each
+    history_number = answered_number _ (history_refusal l s room) _ (known (history_refusal l s room) history_numbers refl history_numbered.known)
 
   add_known : (ask : Ask) → Known (add_refusal l s ask)
-  unfolding add_refusal ask_rules addition_rules book_rules body_rules edition_rules table_rules any
+  unfolding add_refusal ask_rules addition_rules book_rules body_rules edition_rules table_rules any among each
   add_known (save machine began body) = known_rows _ refl
   add_known (restore machine old now) = known_rows _ refl
 
   module _ (ask : Ask) where
     pub add_number : number_of (booked_numbers (added l s ask)) ≡ add_refusal l s ask
-    unfolding added grown
+    unfolding added grown any among each
     add_number = answered_number _ (add_refusal l s ask) _ (add_known ask)
 
   -- What an accepted addition answers: the rows and the bytes of the book then.

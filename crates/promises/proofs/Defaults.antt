@@ -170,7 +170,7 @@ module _ (n boot : ℕ) (d : no_default n boot ≡ false) (itype bus irq : ℕ) 
 -- With no extended entry a bus declares nothing: every listed one answers undeclared, with no link climbed, of every address of
 -- every kind.
 pub default_seen : (n boot : ℕ) → no_default n boot ≡ false → (bus kind address : ℕ)
-    → is_listed (base_entries (default_table n boot)) bus ≡ true → kind ≤ space_kind_most → seen (default_table n boot) bus kind address ≡ Undeclared 0
+    → is_listed (base_entries (default_table n boot)) bus ≡ true → kind ≤ space_kind_most → seen (default_table n boot) bus kind address ≡ Ok (Undeclared 0)
 unfolding silent any links keep
 default_seen n boot d bus kind address l h =
     (silent_itself (default_table n boot) bus kind address (default_accepted n boot d) l h).1 (rw (default_extended n boot d))

@@ -31,8 +31,8 @@ use Rattle.promises.proofs.Given.{Exactly, given_none, given_10, given_11, given
 
 -- Refused with a number exactly when it is the table's,
 pub refused_exactly : (t : List ℕ) (r : Refusal) → (judged t ≡ Err r) ↔ (table_refusal t ≡ number_of_refusal r)
-unfolding judged
-refused_exactly t r = err_exactly (table_refusal t) tt r (known table_numbers refl (refusal_numbered_lem t))
+unfolding judged any among each
+refused_exactly t r = err_exactly (table_refusal t) tt r (known (table_refusal t) table_numbers refl (refusal_numbered_lem t))
 
 -- and accepted exactly when no row is so.
 pub accepted_exactly : (t : List ℕ) → (judged t ≡ Ok tt) ↔ (any so (table_rules t) ≡ false)

@@ -83,24 +83,24 @@ module _ (t : List ℕ) where
   judge_numbered = one_of (table_refusal t) refl refusal_numbered
 
   pub judge_number : number_of (judged_numbers (judged t)) ≡ table_refusal t
-  unfolding judged
-  judge_number = answered_number _ (table_refusal t) _ (known table_numbers refl judge_numbered.known)
+  unfolding judged any among each
+  judge_number = answered_number _ (table_refusal t) _ (known (table_refusal t) table_numbers refl judge_numbered.known)
 
   pub examine_numbered : OneOf (λ n. answered n (sections t)) (table_refusal t) table_numbers (examined t)
   unfolding examined
   examine_numbered = one_of (table_refusal t) refl refusal_numbered
 
   pub examine_number : number_of (examined_numbers (examined t)) ≡ table_refusal t
-  unfolding examined
-  examine_number = answered_number _ (table_refusal t) _ (known table_numbers refl examine_numbered.known)
+  unfolding examined any among each
+  examine_number = answered_number _ (table_refusal t) _ (known (table_refusal t) table_numbers refl examine_numbered.known)
 
   pub parts_numbered : OneOf (λ n. answered n (record { base = base_length t; end = extended_end t })) (table_refusal t) table_numbers (parted t)
   unfolding parted
   parts_numbered = one_of (table_refusal t) refl refusal_numbered
 
   pub parts_number : number_of (parted_numbers (parted t)) ≡ table_refusal t
-  unfolding parted
-  parts_number = answered_number _ (table_refusal t) _ (known table_numbers refl parts_numbered.known)
+  unfolding parted any among each
+  parts_number = answered_number _ (table_refusal t) _ (known (table_refusal t) table_numbers refl parts_numbered.known)
 
   module _ (bus kind address : ℕ) where
     pub address_numbered : OneOf (λ n. answered n (seen_by t bus kind address)) (refusal (address_rules t bus kind)) address_numbers (seen t bus kind address)
@@ -108,8 +108,8 @@ module _ (t : List ℕ) where
     address_numbered = one_of (refusal (address_rules t bus kind)) refl (refusal_among (address_rules t bus kind))
 
     pub address_number : number_of (seen_numbers (seen t bus kind address)) ≡ refusal (address_rules t bus kind)
-    unfolding seen
-    address_number = answered_number _ (refusal (address_rules t bus kind)) _ (known address_numbers refl address_numbered.known)
+    unfolding seen any among each
+    address_number = answered_number _ (refusal (address_rules t bus kind)) _ (known (refusal (address_rules t bus kind)) address_numbers refl address_numbered.known)
 
   module _ (q : Question) (room : List ℕ) where
     pub routes_numbered : OneOf (λ n. answered n (length (routes_of q t) / pair_size)) (route_refusal q t room) route_numbers (routed q t room)
@@ -117,8 +117,8 @@ module _ (t : List ℕ) where
     routes_numbered = one_of (route_refusal q t room) refl (refusal_among (room_rules (line_rules q t) (too_small (length (routes_of q t)) room)))
 
     pub routes_number : number_of (lent_numbers (routed q t room)) ≡ route_refusal q t room
-    unfolding routed
-    routes_number = answered_number _ (route_refusal q t room) _ (known route_numbers refl routes_numbered.known)
+    unfolding routed any among each
+    routes_number = answered_number _ (route_refusal q t room) _ (known (route_refusal q t room) route_numbers refl routes_numbered.known)
 
   module _ (s : Slot) (room : List ℕ) where
     pub slot_numbered : OneOf (λ n. answered n (length (slot_routes_of s t) / pair_size)) (slot_refusal s t room) slot_numbers (slot_routed s t room)
@@ -126,8 +126,8 @@ module _ (t : List ℕ) where
     slot_numbered = one_of (slot_refusal s t room) refl (refusal_among (room_rules (slot_rules s t) (too_small (length (slot_routes_of s t)) room)))
 
     pub slot_number_lem : number_of (lent_numbers (slot_routed s t room)) ≡ slot_refusal s t room
-    unfolding slot_routed
-    slot_number_lem = answered_number _ (slot_refusal s t room) _ (known slot_numbers refl slot_numbered.known)
+    unfolding slot_routed any among each
+    slot_number_lem = answered_number _ (slot_refusal s t room) _ (known (slot_refusal s t room) slot_numbers refl slot_numbered.known)
 
   module _ (room : List ℕ) where
     pub slots_numbered : OneOf (λ n. answered n (length (slots_of t) / slot_size)) (slots_refusal t room) slots_numbers (slots_listed t room)
@@ -135,8 +135,8 @@ module _ (t : List ℕ) where
     slots_numbered = one_of (slots_refusal t room) refl (refusal_among (room_rules (table_rules t) (too_small (length (slots_of t)) room)))
 
     pub slots_number : number_of (lent_numbers (slots_listed t room)) ≡ slots_refusal t room
-    unfolding slots_listed
-    slots_number = answered_number _ (slots_refusal t room) _ (known slots_numbers refl slots_numbered.known)
+    unfolding slots_listed any among each
+    slots_number = answered_number _ (slots_refusal t room) _ (known (slots_refusal t room) slots_numbers refl slots_numbered.known)
 
     pub renumber_numbered :
         OneOf (λ n. answered n (record { count = length (new_numbers_of t); used = bits_set (used_numbers (base_entries t)) }))
@@ -145,8 +145,8 @@ module _ (t : List ℕ) where
     renumber_numbered = one_of (renumber_refusal t room) refl (refusal_among (renumber_rules t room))
 
     pub renumber_number : number_of (renumbered_numbers (renumbered t room)) ≡ renumber_refusal t room
-    unfolding renumbered
-    renumber_number = answered_number _ (renumber_refusal t room) _ (known used_numbers refl renumber_numbered.known)
+    unfolding renumbered any among each
+    renumber_number = answered_number _ (renumber_refusal t room) _ (known (renumber_refusal t room) renumber_numbers refl renumber_numbered.known)
 
   -- "A refusal returns its number alone, except 23": the inner number goes with it (Edits, inner-number).
   module _ (e : Edit) where
@@ -155,7 +155,7 @@ module _ (t : List ℕ) where
     edit_numbered = one_of (edit_refusal t e) refl (refusal_among (edit_rules t e))
 
     pub edit_number : number_of (edited_numbers (edited t e)) ≡ edit_refusal t e
-    unfolding edited
+    unfolding edited any among each
     edit_number = edited_number edit_numbers (edit_refusal t e) (inner_refusal t e) refl edit_numbered.known
 
 module _ (d : List ℕ) where
@@ -164,8 +164,8 @@ module _ (d : List ℕ) where
   find_numbered = one_of (refusal (pointer_rules d)) refl (refusal_among (pointer_rules d))
 
   pub find_number : number_of (held_numbers (pointed d)) ≡ refusal (pointer_rules d)
-  unfolding pointed
-  find_number = answered_number _ (refusal (pointer_rules d)) _ (known pointer_numbers refl find_numbered.known)
+  unfolding pointed any among each
+  find_number = answered_number _ (refusal (pointer_rules d)) _ (known (refusal (pointer_rules d)) pointer_numbers refl find_numbered.known)
 
   read_among : among (dump_refusal d) (0 ∷ read_numbers) ≡ true
   unfolding dump_refusal dump_rules pointer_rules each
@@ -176,8 +176,8 @@ module _ (d : List ℕ) where
   read_numbered = one_of (dump_refusal d) refl read_among
 
   pub read_number : number_of (held_numbers (held d)) ≡ dump_refusal d
-  unfolding held
-  read_number = answered_number _ (dump_refusal d) _ (known read_numbers refl read_numbered.known)
+  unfolding held any among each
+  read_number = answered_number _ (dump_refusal d) _ (known (dump_refusal d) read_numbers refl read_numbered.known)
 
   module _ (room : List ℕ) where
     pub list_numbered : OneOf (λ n. answered n (length (listing d))) (list_refusal d room) list_numbers (listed d room)
@@ -185,16 +185,16 @@ module _ (d : List ℕ) where
     list_numbered = one_of (list_refusal d room) refl (dump_among d (not (is_default d)) (room_number when too_small (length (listing d)) room ∷ []))
 
     pub list_number : number_of (lent_numbers (listed d room)) ≡ list_refusal d room
-    unfolding listed
-    list_number = answered_number _ (list_refusal d room) _ (known list_numbers refl list_numbered.known)
+    unfolding listed any among each
+    list_number = answered_number _ (list_refusal d room) _ (known (list_refusal d room) list_numbers refl list_numbered.known)
 
     pub print_numbered : OneOf (λ n. answered n (length (program_output d))) (room_refusal (program_output d) room) print_numbers (printed d room)
     unfolding printed fitted room_refusal lent_refusal room_rules each
     print_numbered = one_of (room_refusal (program_output d) room) refl (refusal_among (room_number when too_small (length (program_output d)) room ∷ []))
 
     pub print_number : number_of (lent_numbers (printed d room)) ≡ room_refusal (program_output d) room
-    unfolding printed fitted
-    print_number = answered_number _ (room_refusal (program_output d) room) _ (known print_numbers refl print_numbered.known)
+    unfolding printed fitted any among each
+    print_number = answered_number _ (room_refusal (program_output d) room) _ (known (room_refusal (program_output d) room) print_numbers refl print_numbered.known)
 
 -- ---- The tables of the default configurations, and the full listing
 
@@ -206,8 +206,8 @@ module _ (n boot : ℕ) (room : List ℕ) where
       (refusal_among (room_rules (default_number when no_default n boot ∷ []) (too_small (length (default_table n boot)) room)))
 
   pub make_number : number_of (lent_numbers (made n boot room)) ≡ make_refusal n boot room
-  unfolding made
-  make_number = answered_number _ (make_refusal n boot room) _ (known make_numbers refl make_numbered.known)
+  unfolding made any among each
+  make_number = answered_number _ (make_refusal n boot room) _ (known (make_refusal n boot room) make_numbers refl make_numbered.known)
 
 module _ (d : List ℕ) (boot : ℕ) (room : List ℕ) where
 
@@ -224,8 +224,8 @@ module _ (d : List ℕ) (boot : ℕ) (room : List ℕ) where
   full_numbered = one_of (full_refusal d boot room) refl full_among
 
   pub full_number : number_of (lent_numbers (full_listed d boot room)) ≡ full_refusal d boot room
-  unfolding full_listed
-  full_number = answered_number _ (full_refusal d boot room) _ (known full_numbers refl full_numbered.known)
+  unfolding full_listed any among each
+  full_number = answered_number _ (full_refusal d boot room) _ (known (full_refusal d boot room) full_numbers refl full_numbered.known)
 
 -- An image whose parts fit passes 5 to 9: its length, its signature, its base length, its sum and its revision are made so.
 module _ (p : Parts) (room : List ℕ) (early : early_refusal p room ≡ 0) where
@@ -290,8 +290,8 @@ module _ (p : Parts) (room : List ℕ) where
   write_numbered = one_of (write_refusal p room) refl write_among
 
   pub write_number : number_of (lent_numbers (written p room)) ≡ write_refusal p room
-  unfolding written
-  write_number = answered_number _ (write_refusal p room) _ (known write_numbers refl write_numbered.known)
+  unfolding written any among each
+  write_number = answered_number _ (write_refusal p room) _ (known (write_refusal p room) write_numbers refl write_numbered.known)
 
 -- ---- The numbers of the listing and the writer, given exactly when
 
@@ -380,5 +380,5 @@ module _ (d : List ℕ) where
 
 -- The inner number is a table's.
 pub inner_known : (t : List ℕ) (e : Edit) → Known (inner_refusal t e)
-unfolding inner_refusal
-inner_known t e = known table_numbers refl (refusal_numbered (edited_table t e))
+unfolding inner_refusal any among each
+inner_known t e = known (table_refusal (edited_table t e)) table_numbers refl (refusal_numbered (edited_table t e))
