@@ -1,4 +1,5 @@
--- Laws of the two calls: an entry at a place, and what they find in the words of the rules. Assumes nothing.
+-- Laws of the two calls: of one entry, of the pieces that a loop has left, and what they find in the words of the rules. Assumes
+-- nothing.
 use Prim.Native.Nat.{ℕ, ◌+◌, ◌*◌, ◌/◌, ◌%◌, ◌≤◌, ◌<◌}
 use mathlib.Core.Path.{◌≡◌, refl, ap, sym, ◌∙◌}
 use mathlib.Core.Bool.{Bool, true, false, not, cond, ◌||◌, ◌&&◌, or_assoc, or_comm, and-true, and-false}
@@ -29,10 +30,6 @@ module _ (n : ℕ) (s : List ℕ) (at : ℕ) (f : 4 ≤ n) where
   pub row_enabled : enabled (take n (drop at s)) ≡ eqb (get_or s (at + 3) 0 % 2) 1
   unfolding bit
   row_enabled = rw (row_byte n s at 3 (omega arith), div-one)
-
-  row_bootstrap : bootstrap (take n (drop at s)) ≡ eqb (get_or s (at + 3) 0 / 2 % 2) 1
-  unfolding bit
-  row_bootstrap = rw (row_byte n s at 3 (omega arith))
 
 -- The marks that an entry puts: one more beside its own where it is enabled.
 marks_by : (own more f : ℕ) → own + f % 2 * more ≡ cond (eqb (f % 2) 1) (own + more) own
