@@ -1,14 +1,18 @@
 -- The stores of an exchange: what they leave is the table with the wanted entry and the base checksum for it, and done
 -- back they leave the table as it was. Assumes nothing.
 use Rattle.std.proofs.Common.{◌≡◌, ℕ, zero, suc, ◌+◌, ◌-◌, ◌%◌, ◌<◌, ◌≤◌, List, length, take, drop, set, sym, refl, ap, ◌∙◌, arith, length-take-le, get_or-take, take-take, set-set, ne_eqb}
+use Rattle.std.specs.Prelude.{Result, Ok, Err}
 use lib.Seq.{sets, set-get_or, take-set-lt}
 use Rattle.mps.specs.Words.{byte}
 use Rattle.mps.specs.Sums.{sum256, to_store}
 use Rattle.mps.specs.Layout.{header_size, checksum_at, id_of, base_length, base_bytes}
-use Rattle.mps.specs.Judge.{table_refusal}
+use Rattle.mps.specs.Judge.{table_refusal, judged}
 use Rattle.mps.specs.Edits.{Edit, standing, offset_of, sealed, edited_table, inner_refusal}
 use Rattle.mps.specs.declared.Sections.{Sections}
-use Rattle.mps.specs.declared.Edited.TheVariants.{Done, Inner}
+use Rattle.mps.specs.Reasons.{refusal_numbered}
+use Rattle.mps.specs.declared.refusals.Refusal.{Refusal}
+use Rattle.mps.specs.declared.refusals.EditRefusal.TheVariants.{Inner}
+use Rattle.judge.proofs.Laws.{judged_accepted, judged_refused}
 use Rattle.laws.proofs.Parts.{drop_take}
 use Rattle.laws.proofs.Small.{Bytes}
 use Rattle.laws.proofs.Stores.{sets_byte, take_sets, sets_set, sets_sets, sets_standing}
@@ -22,9 +26,9 @@ use Rattle.judge.proofs.Accepted.{placed}
 use Rattle.editor.specs.Tested.{Ready, exchanged_of, exchanged, exchange_left}
 use Rattle.editor.specs.Amended.{Amended}
 
-inner_some : (n : ℕ) → (n ≡ 0 → ⊥) → Inner n ≡ exchanged_of n
-inner_some zero z = absurd (z refl)
-inner_some (suc n) z = refl
+inner_some : (n : ℕ) {r : Refusal} → (n ≡ 0 → ⊥) → r ≡ refusal_numbered n → Err (Inner r) ≡ exchanged_of n
+inner_some zero z q = absurd (z refl)
+inner_some (suc n) z q = rw q
 
 module _ (t : List ℕ) (p : Sections) (e : Edit) (r : Ready t p e) where
   s : Sound t
@@ -92,6 +96,9 @@ module _ (t : List ℕ) (p : Sections) (e : Edit) (r : Ready t p e) where
     unfolding edited_table sealed
     put_in = f ∙ rw (a, c, new_checksum)
 
+    pub kept_length : length u ≡ length t
+    kept_length = rw put_in (replaced_length t e s r.shaped)
+
     pub left_long : header_size ≤ length u
     left_long = rw (put_in, replaced_length t e s r.shaped) s.long
 
@@ -122,19 +129,18 @@ module _ (t : List ℕ) (p : Sections) (e : Edit) (r : Ready t p e) where
         (sets_sets t at e.wanted e.stated alike
         ∙ sets_standing t at e.stated (omega (arith, inside, alike)) (rw alike at stated_stand))
 
-    pub back_length : {v : List ℕ} → v ≡ set (sets u o e.stated) checksum_at (byte t checksum_at) → length v ≡ length t
-    back_length q = ap length (q ∙ put_back)
-
-    module _ {number : ℕ} (k : number ≡ table_refusal u) where
-      is_number : inner_refusal t e ≡ number
+    module _ {again : Result (Unit {0}) Refusal} (k : again ≡ judged u) where
+      is_number : inner_refusal t e ≡ table_refusal u
       unfolding inner_refusal
-      is_number = sym (k ∙ ap table_refusal put_in)
+      is_number = sym (ap table_refusal put_in)
 
-      pub exchange_done : number ≡ 0 → (Done ≡ exchanged t e) × (u ≡ exchange_left t e)
+      pub exchange_done : {x : Unit {0}} → again ≡ Ok x → (Ok tt ≡ exchanged t e) × (u ≡ exchange_left t e)
       unfolding exchanged exchange_left
-      exchange_done z = (rw (is_number, z), rw (is_number, z) put_in)
+      exchange_done q = let z = judged_accepted u k q in (rw (is_number, z), rw (is_number, z) put_in)
 
-      pub exchange_refused : (number ≡ 0 → ⊥) → {v : List ℕ} → v ≡ set (sets u o e.stated) checksum_at (byte t checksum_at)
-          → (Inner number ≡ exchanged t e) × (v ≡ exchange_left t e)
+      pub exchange_refused : {r : Refusal} → again ≡ Err r → {v : List ℕ} → v ≡ set (sets u o e.stated) checksum_at (byte t checksum_at)
+          → (Err (Inner r) ≡ exchanged t e) × (v ≡ exchange_left t e)
       unfolding exchanged exchange_left
-      exchange_refused z q = (rw is_number (inner_some number z), rw (is_number, ne_eqb number 0 z) (q ∙ put_back))
+      exchange_refused q w =
+          let g = judged_refused u k q in
+          (rw is_number (inner_some (table_refusal u) g.0 g.1), rw (is_number, ne_eqb (table_refusal u) 0 g.0) (w ∙ put_back))

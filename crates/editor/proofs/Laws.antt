@@ -1,24 +1,26 @@
 -- The answer of an edit, from its tests and its exchange. Assumes nothing.
 use Rattle.std.proofs.Common.{◌≡◌, ℕ, zero, suc, ◌<◌, false, not, eqb, leb, List, [], ◌∷◌, sym, refl, ap, ◌∙◌, append_assoc, arith, eq-eqb, ne_eqb, eqb-true}
+use Rattle.std.specs.Prelude.{Result, Ok, Err}
 use Rattle.mps.specs.Words.{among, any, each, first}
 use Rattle.mps.specs.Refusals.{Rule, ◌when◌, refusal, inner_number}
-use Rattle.mps.specs.Answers.{edited_of}
+use Rattle.mps.specs.Reasons.{refusal_numbered}
+use Rattle.mps.specs.Answers.{answered, edited_of}
 use Rattle.mps.specs.Judge.{table_rules, table_refusal, examined}
 use Rattle.mps.specs.Edits.{Edit, standing, no_place, other_shape, changed, inner_refusal, edit_rules, edit_refusal, edited, edit_left, entry_rules}
 use Rattle.mps.specs.declared.Sections.{Sections}
-use Rattle.mps.specs.declared.Examined.{Examined}
-use Rattle.mps.specs.declared.Examined.TheVariants.{Accepted as Examined-as-Accepted}
-use Rattle.mps.specs.declared.Edited.{Edited}
-use Rattle.mps.specs.declared.Edited.TheVariants.{Refused as Edited-as-Refused}
+use Rattle.mps.specs.declared.refusals.Refusal.{Refusal}
+use Rattle.mps.specs.declared.refusals.EditRefusal.{EditRefusal}
+use Rattle.mps.specs.declared.refusals.EditRefusal.TheVariants.{Refused}
+use Rattle.laws.proofs.Answers.{given_ok, given_err}
 use Rattle.laws.proofs.Refusals.{number, first_some, first_none, refusal_append, refusal_pass, refusal_below}
 use Rattle.laws.proofs.Small.{Bytes}
-use Rattle.judge.proofs.Laws.{behind_table_lem, accepted_number, accepted_sections, accepted_places}
+use Rattle.judge.proofs.Laws.{behind_table_lem, refused_table, accepted_number, accepted_sections, accepted_places}
 use Rattle.editor.specs.Tested.{Accepted, Ready, test_rules, exchanged_of, exchanged, exchange_left}
 use Rattle.accepted.proofs.Shaped.{Shaped, shape_passes, passes_shape, unchanged_seen, seen_unchanged}
 
 -- ---- Numbers and answers
 
-refused_answer : (n inner : ℕ) → 0 < n → n < inner_number → Edited-as-Refused n ≡ edited_of n inner
+refused_answer : (n inner : ℕ) → 0 < n → n < inner_number → Err (Refused (refusal_numbered n)) ≡ edited_of n inner
 refused_answer zero inner p h = absurd (omega arith)
 refused_answer (suc n) inner p h = rw (ne_eqb (suc n) 23 (λ e. omega arith))
 
@@ -37,7 +39,7 @@ inner_none zero = refl
 inner_none (suc n) = rw (ne_eqb (suc n) 0 (λ e. omega arith))
 
 -- What the judge's answer tells of an accepted table.
-pub examined_table : (t : List ℕ) → Bytes t → {r : Examined} {p : Sections} → r ≡ examined t → r ≡ Examined-as-Accepted p → Accepted t p
+pub examined_table : (t : List ℕ) → Bytes t → {r : Result Sections Refusal} {p : Sections} → r ≡ examined t → r ≡ Ok p → Accepted t p
 examined_table t b e q =
     record { number = sym (accepted_number t e q); places = accepted_sections t e q; placed = accepted_places t b e q }
 
@@ -88,31 +90,41 @@ module _ (t : List ℕ) (e : Edit) where
       let shape = shape_passes t e p.shaped in
       edit_number ∙ rw (tests_number t e, p.table, shape.0, shape.1, seen_unchanged t e p.seen, i)
 
-  edit_refused : (n : ℕ) → refusal (test_rules t e) ≡ n → (n ≡ 0 → ⊥) → (Edited-as-Refused n ≡ edited t e) × (t ≡ edit_left t e)
+  edit_refused : (n : ℕ) {r : Refusal} {x : EditRefusal} → refusal (test_rules t e) ≡ n → (n ≡ 0 → ⊥) → r ≡ refusal_numbered n → x ≡ Refused r
+      → (Err x ≡ edited t e) × (t ≡ edit_left t e)
   unfolding edited edit_left
-  edit_refused n q z =
+  edit_refused n q z g h =
       let b = refusal_below 23 (test_rules t e) (omega arith) (tests_given t e).1 in
       let k : edit_refusal t e ≡ n = edit_number ∙ first_some _ _ (λ x. z (sym q ∙ x)) ∙ q in
-      (rw k (refused_answer n _ (omega arith) (omega arith)), rw (k, ne_eqb n 0 z))
+      (rw (h, g, k) (refused_answer n _ (omega arith) (omega arith)), rw (k, ne_eqb n 0 z))
 
-  -- By the table's own number, or by one of 20 to 22.
-  pub table_refused : {n : ℕ} → n ≡ table_refusal t → (n ≡ 0 → ⊥) → (Edited-as-Refused n ≡ edited t e) × (t ≡ edit_left t e)
-  table_refused {n} q z = edit_refused n (tests_number t e ∙ rw (← q) (first_some n _ z)) z
+  -- By the table's own refusal, or by one of 20 to 22.
+  pub table_refused :
+      {found : Result Sections Refusal} → found ≡ examined t → {r : Refusal} → found ≡ Err r → {x : EditRefusal} → x ≡ Refused r
+      → (Err x ≡ edited t e) × (t ≡ edit_left t e)
+  table_refused f q h =
+      let g = refused_table t f q in
+      edit_refused (table_refusal t) (tests_number t e ∙ first_some (table_refusal t) _ g.0) g.0 g.1 h
 
-  module _ {p : Sections} (a : Accepted t p) {n : ℕ} (q : n ≡ refusal (entry_rules t e)) where
-    tests : refusal (test_rules t e) ≡ n
-    tests = tests_number t e ∙ rw (a.number, ← q)
+  module _ {p : Sections} (a : Accepted t p) {tested : Result (Unit {0}) Refusal} (q : tested ≡ answered (refusal (entry_rules t e)) (tt {0})) where
+    tests : refusal (test_rules t e) ≡ refusal (entry_rules t e)
+    tests = tests_number t e ∙ rw a.number
 
-    pub entry_refused : (n ≡ 0 → ⊥) → (Edited-as-Refused n ≡ edited t e) × (t ≡ edit_left t e)
-    entry_refused z = edit_refused n tests z
+    pub entry_refused : {r : Refusal} → tested ≡ Err r → {x : EditRefusal} → x ≡ Refused r → (Err x ≡ edited t e) × (t ≡ edit_left t e)
+    entry_refused k h =
+        let g = given_err (refusal (entry_rules t e)) (tt {0}) (sym k ∙ q) in
+        edit_refused (refusal (entry_rules t e)) tests g.0 g.1 h
 
-    module _ (z : n ≡ 0) where
+    module _ {u : Unit {0}} (k : tested ≡ Ok u) where
+      z : refusal (entry_rules t e) ≡ 0
+      z = (given_ok (refusal (entry_rules t e)) (tt {0}) (sym k ∙ q)).0
+
       -- What the exchange may use.
       pub ready : Ready t p e
       ready = let passed = passed_tests t e (tests ∙ z) in record { table = a; shaped = passed.shaped; seen = passed.seen }
 
       pub edit_exchanged :
-          {r : Edited} {u : List ℕ} → (r ≡ exchanged t e) × (u ≡ exchange_left t e) → (r ≡ edited t e) × (u ≡ edit_left t e)
+          {r : Result (Unit {0}) EditRefusal} {v : List ℕ} → (r ≡ exchanged t e) × (v ≡ exchange_left t e) → (r ≡ edited t e) × (v ≡ edit_left t e)
       unfolding exchanged exchange_left edited edit_left
       edit_exchanged x =
           let i = inner_refusal t e in

@@ -1,10 +1,14 @@
 -- The number of an amended table, by the type that the code has read. Assumes nothing.
 use Rattle.std.proofs.Common.{◌≡◌, ℕ, zero, suc, ◌+◌, ◌%◌, ◌<◌, ◌≤◌, List, [], length, drop, sym, refl, ap, ◌∙◌, add-zero, arith, get_or-drop, get_or-set_same, ne_eqb}
+use Rattle.std.specs.Prelude.{Result}
 use lib.Seq.{take-set-le}
 use Rattle.mps.specs.Words.{byte, part}
 use Rattle.mps.specs.Refusals.{Rule, refusal}
 use Rattle.mps.specs.Layout.{Entry, type, id_of, processor_type, bus_type, io_apic_type, io_interrupt_type, local_interrupt_type, last_base_type, local_apic, local_apic_step, base_entries, base_entry_length}
-use Rattle.mps.specs.Judge.{table_refusal}
+use Rattle.mps.specs.Answers.{answered}
+use Rattle.mps.specs.Judge.{table_refusal, judged}
+use Rattle.mps.specs.declared.refusals.Refusal.{Refusal}
+use Rattle.laws.proofs.Answers.{told}
 use Rattle.mps.specs.Edits.{Edit, standing, before, offset_of, edited_table}
 use Rattle.mps.specs.declared.Sections.{Sections}
 use Rattle.accepted.proofs.Pieces.{walked_type}
@@ -105,14 +109,17 @@ module _ {u : List ℕ} {p : Sections} {at id : ℕ} (m : Amended u p at id) whe
     type_is : {n : ℕ} → k ≡ n → type m.edit.wanted ≡ n
     type_is q = sym (f ∙ kind) ∙ q
 
-    pub of_processor : k ≡ processor_type → {r : ℕ} → r ≡ refusal (processor_rules u id) → r ≡ table_refusal u
-    of_processor q w = w ∙ same_rows processor_rules ∙ number (by_processor m.was m.edit m.accepted m.shaped (type_is q))
+    pub of_processor : k ≡ processor_type → {r : Result (Unit {0}) Refusal} → r ≡ answered (refusal (processor_rules u id)) (tt {0}) → r ≡ judged u
+    unfolding judged
+    of_processor q w = w ∙ told (tt {0}) (same_rows processor_rules ∙ number (by_processor m.was m.edit m.accepted m.shaped (type_is q)))
 
-    pub of_bus : k ≡ bus_type → {r : ℕ} → r ≡ refusal (bus_rules u id) → r ≡ table_refusal u
-    of_bus q w = w ∙ same_rows bus_rules ∙ number (by_bus m.was m.edit m.accepted m.shaped (type_is q))
+    pub of_bus : k ≡ bus_type → {r : Result (Unit {0}) Refusal} → r ≡ answered (refusal (bus_rules u id)) (tt {0}) → r ≡ judged u
+    unfolding judged
+    of_bus q w = w ∙ told (tt {0}) (same_rows bus_rules ∙ number (by_bus m.was m.edit m.accepted m.shaped (type_is q)))
 
-    pub of_io_apic : k ≡ io_apic_type → {r : ℕ} → r ≡ refusal (io_apic_rules u id) → r ≡ table_refusal u
-    of_io_apic q w = w ∙ same_rows io_apic_rules ∙ number (by_io_apic m.was m.edit m.accepted m.shaped (type_is q))
+    pub of_io_apic : k ≡ io_apic_type → {r : Result (Unit {0}) Refusal} → r ≡ answered (refusal (io_apic_rules u id)) (tt {0}) → r ≡ judged u
+    unfolding judged
+    of_io_apic q w = w ∙ told (tt {0}) (same_rows io_apic_rules ∙ number (by_io_apic m.was m.edit m.accepted m.shaped (type_is q)))
 
     module _ (o : k ≡ processor_type → ⊥) where
       no_processor : type m.edit.wanted ≡ processor_type → ⊥
@@ -130,14 +137,16 @@ module _ {u : List ℕ} {p : Sections} {at id : ℕ} (m : Amended u p at id) whe
           ∙ ap (λ (i : ℕ). refusal (g v (part i (i + 8) v))) m.here
           ∙ ap (λ (x : Entry). refusal (g v x)) (wanted_is m.was m.edit m.accepted m.shaped no_processor)
 
-      pub of_io_interrupt : k ≡ io_interrupt_type → {r : ℕ} → r ≡ refusal (io_interrupt_rules u (part at (at + 8) u)) → r ≡ table_refusal u
-      of_io_interrupt q w = w ∙ same_entry io_interrupt_rules ∙ number (by_io_interrupt m.was m.edit m.accepted m.shaped (type_is q))
+      pub of_io_interrupt : k ≡ io_interrupt_type → {r : Result (Unit {0}) Refusal} → r ≡ answered (refusal (io_interrupt_rules u (part at (at + 8) u))) (tt {0}) → r ≡ judged u
+      unfolding judged
+      of_io_interrupt q w = w ∙ told (tt {0}) (same_entry io_interrupt_rules ∙ number (by_io_interrupt m.was m.edit m.accepted m.shaped (type_is q)))
 
       -- No other type is left.
       pub of_local_interrupt :
-          (k ≡ bus_type → ⊥) → (k ≡ io_apic_type → ⊥) → (k ≡ io_interrupt_type → ⊥) → {r : ℕ} → r ≡ refusal (local_interrupt_rules u (part at (at + 8) u))
-          → r ≡ table_refusal u
+          (k ≡ bus_type → ⊥) → (k ≡ io_apic_type → ⊥) → (k ≡ io_interrupt_type → ⊥) → {r : Result (Unit {0}) Refusal} → r ≡ answered (refusal (local_interrupt_rules u (part at (at + 8) u))) (tt {0})
+          → r ≡ judged u
+      unfolding judged
       of_local_interrupt b a i w =
           let most : k ≤ last_base_type = omega (arith, f ∙ kind, kind_most m.was m.edit m.accepted m.shaped) in
           let last = last_type_lem k most o b a i in
-          w ∙ same_entry local_interrupt_rules ∙ number (by_local_interrupt m.was m.edit m.accepted m.shaped (type_is last))
+          w ∙ told (tt {0}) (same_entry local_interrupt_rules ∙ number (by_local_interrupt m.was m.edit m.accepted m.shaped (type_is last)))

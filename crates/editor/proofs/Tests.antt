@@ -1,7 +1,13 @@
 -- The tests of an edit, 20 to 22: the rows, and the entry that the code finds and compares. Assumes nothing.
 use Rattle.std.proofs.Common.{◌≡◌, ℕ, ◌+◌, ◌<◌, ◌≤◌, Bool, true, false, not, ◌||◌, eqb, List, [], ◌∷◌, length, sym, ap, ◌∙◌, add-zero, arith, get_or-drop, le-ltb, lt-ltb}
+use Rattle.std.specs.Prelude.{Result, Ok, Err}
 use Rattle.mps.specs.Words.{byte, same, part}
 use Rattle.mps.specs.Refusals.{refusal}
+use Rattle.mps.specs.Reasons.{refusal_numbered}
+use Rattle.mps.specs.Answers.{answered}
+use Rattle.mps.specs.declared.refusals.Refusal.{Refusal}
+use Rattle.mps.specs.declared.refusals.Refusal.TheVariants.{NoEntry, OtherEntry, Changed}
+use Rattle.laws.proofs.Answers.{told}
 use Rattle.mps.specs.Layout.{entry_count, base_entry_length}
 use Rattle.mps.specs.Judge.{table_refusal}
 use Rattle.mps.specs.Edits.{Edit, standing, offset_of, no_place, other_shape, changed, entry_rules}
@@ -13,9 +19,9 @@ use Rattle.accepted.proofs.Stands.{Stands, stands}
 -- ---- The rows
 
 module _ (t : List ℕ) (e : Edit) where
-  pub number_20 : entry_count t ≤ e.place → 20 ≡ refusal (entry_rules t e)
-  unfolding no_place
-  number_20 h = sym (refusal_stop {b = no_place t e} 20 _ (rw (le-ltb _ _ h)))
+  pub number_20 : entry_count t ≤ e.place → Err NoEntry ≡ answered (refusal (entry_rules t e)) (tt {0})
+  unfolding no_place refusal_numbered
+  number_20 h = let n : 20 ≡ refusal (entry_rules t e) = sym (refusal_stop {b = no_place t e} 20 _ (rw (le-ltb _ _ h))) in told (tt {0}) n
 
   module _ (p : e.place < entry_count t) where
     placed : no_place t e ≡ false
@@ -54,6 +60,9 @@ module _ (t : List ℕ) (place at : ℕ) (f : Found t place at) where
   found_end e = let s = sound t f.accepted in omega (arith, f.is, found_size e, entry.inside, s.inside)
 
   module _ (stated wanted : List ℕ) {n k : ℕ} (s : n ≡ base_entry_length (byte t at ∷ [])) (q : k ≡ byte wanted 0) where
+    abbrev tested : Result (Unit {0}) Refusal
+    tested = answered (refusal (entry_rules t (edit_of place stated wanted))) (tt {0})
+
     shape :
         (not (eqb (length stated) n) || not (eqb (length wanted) n) || not (eqb k (byte t at)))
         ≡ other_shape t (edit_of place stated wanted)
@@ -66,14 +75,16 @@ module _ (t : List ℕ) (place at : ℕ) (f : Found t place at) where
 
     pub found_21 :
         (not (eqb (length stated) n) || not (eqb (length wanted) n) || not (eqb k (byte t at))) ≡ true
-        → 21 ≡ refusal (entry_rules t (edit_of place stated wanted))
-    found_21 h = number_21 t _ f.exists (sym shape ∙ h)
+        → Err OtherEntry ≡ tested
+    unfolding refusal_numbered
+    found_21 h = told (tt {0}) (number_21 t (edit_of place stated wanted) f.exists (sym shape ∙ h))
 
     module _ (h : (not (eqb (length stated) n) || not (eqb (length wanted) n) || not (eqb k (byte t at))) ≡ false) where
       pub found_22 : {r : Bool} → r ≡ same stated (part at (at + n) t) → r ≡ false
-          → 22 ≡ refusal (entry_rules t (edit_of place stated wanted))
-      found_22 e b = number_22 t _ f.exists (sym shape ∙ h) (sym seen ∙ ap not (sym e ∙ b))
+          → Err Changed ≡ tested
+      unfolding refusal_numbered
+      found_22 e b = told (tt {0}) (number_22 t (edit_of place stated wanted) f.exists (sym shape ∙ h) (sym seen ∙ ap not (sym e ∙ b)))
 
       pub found_seen : {r : Bool} → r ≡ same stated (part at (at + n) t) → r ≡ true
-          → 0 ≡ refusal (entry_rules t (edit_of place stated wanted))
-      found_seen e b = number_none t _ f.exists (sym shape ∙ h) (sym seen ∙ ap not (sym e ∙ b))
+          → Ok tt ≡ tested
+      found_seen e b = told (tt {0}) (number_none t (edit_of place stated wanted) f.exists (sym shape ∙ h) (sym seen ∙ ap not (sym e ∙ b)))

@@ -1,9 +1,14 @@
 -- The ways out of the second judging: what each function has found, and the number that follows. Assumes nothing.
 use Rattle.std.proofs.Common.{◌≡◌, ℕ, ◌+◌, ◌-◌, ◌%◌, ◌<◌, ◌≤◌, Bool, true, false, not, ◌&&◌, ◌||◌, eqb, List, [], ◌∷◌, length, take, drop, replicate, sym, refl, ◌∙◌, arith, take_all, eq-eqb}
+use Rattle.std.specs.Prelude.{Ok, Err}
 use mathlib.Core.Bool.{or-false}
 use lib.ListN.{length-replicate}
 use Rattle.mps.specs.Words.{part, bit, any, among, each}
 use Rattle.mps.specs.Refusals.{refusal}
+use Rattle.mps.specs.Reasons.{refusal_numbered}
+use Rattle.mps.specs.Answers.{answered}
+use Rattle.mps.specs.declared.refusals.Refusal.TheVariants.{Processors, Buses, IoApics, Interrupts, Spaces}
+use Rattle.laws.proofs.Answers.{told}
 use Rattle.mps.specs.Layout.{Entry, header_size, processor_type, io_apic_type, local_apic, local_apic_step, everyone, id_of, base_entries}
 use Rattle.mps.specs.Rules.{io_side, local_side, ids_of, is_listed, links, wrong_processors, wrong_buses, wrong_io_apics, wrong_interrupt, wrong_input}
 use Rattle.mps.specs.Sections.{rows}
@@ -65,31 +70,31 @@ module _ {u : List ℕ} {p : Sections} (h : Placed u p) where
       buses_listed none size buses fine y b (λ z c. marked_none 3 256 z) ∙ rw (← h.buses)
 
   module _ (old : ℕ) {w : Bool} (ew : w ≡ (called bus_call none buses).wrong) where
-    pub by_15 : w ≡ true → 15 ≡ refusal (bus_rules u old)
-    unfolding bus_rules
-    by_15 y = sym (refusal_stop 15 _ (bus_wrong ∙ sym ew ∙ y))
+    pub by_15 : w ≡ true → Err Buses ≡ answered (refusal (bus_rules u old)) (tt {0})
+    unfolding bus_rules refusal_numbered
+    by_15 y = let n : 15 ≡ refusal (bus_rules u old) = sym (refusal_stop 15 _ (bus_wrong ∙ sym ew ∙ y)) in told (tt {0}) n
 
     module _ (nw : w ≡ false) (small : old < 256) {roll : List ℕ} (er : roll ≡ (called bus_call none buses).roll) {l : Bool} (el : l ≡ marked 3 roll old) where
       still : is_listed (base_entries u) old ≡ l
       still = sym (el ∙ rw er (bus_listed (sym ew ∙ nw) old small))
 
-      pub bus_stays : l ≡ true → 0 ≡ refusal (bus_rules u old)
+      pub bus_stays : l ≡ true → Ok tt ≡ answered (refusal (bus_rules u old)) (tt {0})
       unfolding bus_rules refusal
-      bus_stays y = rw (bus_wrong, ← ew, nw, still, y)
+      bus_stays y = let n : 0 ≡ refusal (bus_rules u old) = rw (bus_wrong, ← ew, nw, still, y) in told (tt {0}) n
 
       module _ (nl : l ≡ false) {c : Bool} (ec : c ≡ comes_from u old) where
-        pub by_17 : c ≡ true → 17 ≡ refusal (bus_rules u old)
-        unfolding bus_rules refusal
-        by_17 y = rw (bus_wrong, ← ew, nw, still, nl, ← ec, y)
+        pub by_17 : c ≡ true → Err Interrupts ≡ answered (refusal (bus_rules u old)) (tt {0})
+        unfolding bus_rules refusal refusal_numbered
+        by_17 y = let n : 17 ≡ refusal (bus_rules u old) = rw (bus_wrong, ← ew, nw, still, nl, ← ec, y) in told (tt {0}) n
 
         module _ (nc : c ≡ false) {s : Bool} (es : s ≡ speaks_of u old) where
-          pub by_18 : s ≡ true → 18 ≡ refusal (bus_rules u old)
-          unfolding bus_rules refusal
-          by_18 y = rw (bus_wrong, ← ew, nw, still, nl, ← ec, nc, ← es, y)
+          pub by_18 : s ≡ true → Err Spaces ≡ answered (refusal (bus_rules u old)) (tt {0})
+          unfolding bus_rules refusal refusal_numbered
+          by_18 y = let n : 18 ≡ refusal (bus_rules u old) = rw (bus_wrong, ← ew, nw, still, nl, ← ec, nc, ← es, y) in told (tt {0}) n
 
-          pub past_18 : s ≡ false → 0 ≡ refusal (bus_rules u old)
+          pub past_18 : s ≡ false → Ok tt ≡ answered (refusal (bus_rules u old)) (tt {0})
           unfolding bus_rules refusal
-          past_18 y = rw (bus_wrong, ← ew, nw, still, nl, ← ec, nc, ← es, y)
+          past_18 y = let n : 0 ≡ refusal (bus_rules u old) = rw (bus_wrong, ← ew, nw, still, nl, ← ec, nc, ← es, y) in told (tt {0}) n
 
   -- ---- A processor
 
@@ -101,9 +106,9 @@ module _ {u : List ℕ} {p : Sections} (h : Placed u p) where
     cpu_wrong : wrong_processors u ≡ w
     cpu_wrong = rule_14 u p h ∙ rw (eq-eqb (local_apic u % local_apic_step) 0 aligned, ← s, ← ew)
 
-    pub by_14 : w ≡ true → 14 ≡ refusal (processor_rules u old)
-    unfolding processor_rules
-    by_14 y = sym (refusal_stop 14 _ (cpu_wrong ∙ y))
+    pub by_14 : w ≡ true → Err Processors ≡ answered (refusal (processor_rules u old)) (tt {0})
+    unfolding processor_rules refusal_numbered
+    by_14 y = let n : 14 ≡ refusal (processor_rules u old) = sym (refusal_stop 14 _ (cpu_wrong ∙ y)) in told (tt {0}) n
 
     module _ (n : w ≡ false) (small : old < 256) {next : List ℕ} (en : next ≡ (called processor_call roll cpus).roll)
         {l : Bool} (el : l ≡ (not (eqb old everyone || marked 0 next old) && any (ends_at old) (rows 8 (part p.locals p.mappings u)))) where
@@ -113,13 +118,13 @@ module _ {u : List ℕ} {p : Sections} (h : Placed u p) where
           let rolled = next_14 u p h (rw s at (sym ew ∙ n)) in
           sym (el ∙ rw (en, s, rolled.cpus_shown old small, ← h.locals))
 
-      pub local_17 : l ≡ true → 17 ≡ refusal (processor_rules u old)
-      unfolding processor_rules refusal
-      local_17 y = rw (cpu_wrong, n, local_lost, y)
+      pub local_17 : l ≡ true → Err Interrupts ≡ answered (refusal (processor_rules u old)) (tt {0})
+      unfolding processor_rules refusal refusal_numbered
+      local_17 y = let n : 17 ≡ refusal (processor_rules u old) = rw (cpu_wrong, n, local_lost, y) in told (tt {0}) n
 
-      pub cpu_past : l ≡ false → 0 ≡ refusal (processor_rules u old)
+      pub cpu_past : l ≡ false → Ok tt ≡ answered (refusal (processor_rules u old)) (tt {0})
       unfolding processor_rules refusal
-      cpu_past y = rw (cpu_wrong, n, local_lost, y)
+      cpu_past y = let n : 0 ≡ refusal (processor_rules u old) = rw (cpu_wrong, n, local_lost, y) in told (tt {0}) n
 
   -- ---- An I/O APIC
 
@@ -130,9 +135,9 @@ module _ {u : List ℕ} {p : Sections} (h : Placed u p) where
     apic_wrong : wrong_io_apics (base_entries u) ≡ w
     apic_wrong = rule_16 u p h started starts.size starts.io_taken_shown ∙ rw (← s) (sym ew)
 
-    pub by_16 : w ≡ true → 16 ≡ refusal (io_apic_rules u old)
-    unfolding io_apic_rules
-    by_16 y = sym (refusal_stop 16 _ (apic_wrong ∙ y))
+    pub by_16 : w ≡ true → Err IoApics ≡ answered (refusal (io_apic_rules u old)) (tt {0})
+    unfolding io_apic_rules refusal_numbered
+    by_16 y = let n : 16 ≡ refusal (io_apic_rules u old) = sym (refusal_stop 16 _ (apic_wrong ∙ y)) in told (tt {0}) n
 
     module _ (n : w ≡ false) (small : old < 256) {next : List ℕ} (en : next ≡ (called io_apic_call roll apics).roll)
         {l : Bool} (el : l ≡ (not (eqb old everyone || marked 2 next old) && any (ends_at old) (rows 8 (part p.interrupts p.locals u)))) where
@@ -144,13 +149,13 @@ module _ {u : List ℕ} {p : Sections} (h : Placed u p) where
           (el
           ∙ rw (en, s, listed, starts.ioapics_shown old small, or-false (among old (each id_of apics)), ← h.ioapics, ← h.interrupts))
 
-      pub io_17 : l ≡ true → 17 ≡ refusal (io_apic_rules u old)
-      unfolding io_apic_rules refusal
-      io_17 y = rw (apic_wrong, n, io_lost, y)
+      pub io_17 : l ≡ true → Err Interrupts ≡ answered (refusal (io_apic_rules u old)) (tt {0})
+      unfolding io_apic_rules refusal refusal_numbered
+      io_17 y = let n : 17 ≡ refusal (io_apic_rules u old) = rw (apic_wrong, n, io_lost, y) in told (tt {0}) n
 
-      pub apic_past : l ≡ false → 0 ≡ refusal (io_apic_rules u old)
+      pub apic_past : l ≡ false → Ok tt ≡ answered (refusal (io_apic_rules u old)) (tt {0})
       unfolding io_apic_rules refusal
-      apic_past y = rw (apic_wrong, n, io_lost, y)
+      apic_past y = let n : 0 ≡ refusal (io_apic_rules u old) = rw (apic_wrong, n, io_lost, y) in told (tt {0}) n
 
   -- ---- An interrupt
 
@@ -195,22 +200,22 @@ module _ {u : List ℕ} {p : Sections} (h : Placed u p) where
       io_is : wrong_interrupt (base_entries u) io_apic_type entry ≡ w
       io_is = rw (← io_wrong, ← er, ← ew)
 
-      pub io_wrong_17 : w ≡ true → 17 ≡ refusal (io_interrupt_rules u entry)
-      unfolding io_interrupt_rules
-      io_wrong_17 y = sym (refusal_stop 17 [] (io_is ∙ y))
+      pub io_wrong_17 : w ≡ true → Err Interrupts ≡ answered (refusal (io_interrupt_rules u entry)) (tt {0})
+      unfolding io_interrupt_rules refusal_numbered
+      io_wrong_17 y = let n : 17 ≡ refusal (io_interrupt_rules u entry) = sym (refusal_stop 17 [] (io_is ∙ y)) in told (tt {0}) n
 
-      pub io_right : w ≡ false → 0 ≡ refusal (io_interrupt_rules u entry)
+      pub io_right : w ≡ false → Ok tt ≡ answered (refusal (io_interrupt_rules u entry)) (tt {0})
       unfolding io_interrupt_rules
-      io_right y = sym (refusal_go 17 [] (io_is ∙ y) ∙ refusal_end)
+      io_right y = let n : 0 ≡ refusal (io_interrupt_rules u entry) = sym (refusal_go 17 [] (io_is ∙ y) ∙ refusal_end) in told (tt {0}) n
 
     module _ {roll : List ℕ} (er : roll ≡ roll_for 1 buses cpus entry none) {w : Bool} (ew : w ≡ any (wrong_interrupt_in roll 0 1) (rows 8 entry)) where
       local_is : (wrong_interrupt (base_entries u) processor_type entry || wrong_input entry) ≡ w
       local_is = rw (← local_wrong, ← er, ← ew)
 
-      pub local_wrong_17 : w ≡ true → 17 ≡ refusal (local_interrupt_rules u entry)
-      unfolding local_interrupt_rules
-      local_wrong_17 y = sym (refusal_stop 17 [] (local_is ∙ y))
+      pub local_wrong_17 : w ≡ true → Err Interrupts ≡ answered (refusal (local_interrupt_rules u entry)) (tt {0})
+      unfolding local_interrupt_rules refusal_numbered
+      local_wrong_17 y = let n : 17 ≡ refusal (local_interrupt_rules u entry) = sym (refusal_stop 17 [] (local_is ∙ y)) in told (tt {0}) n
 
-      pub local_right : w ≡ false → 0 ≡ refusal (local_interrupt_rules u entry)
+      pub local_right : w ≡ false → Ok tt ≡ answered (refusal (local_interrupt_rules u entry)) (tt {0})
       unfolding local_interrupt_rules
-      local_right y = sym (refusal_go 17 [] (local_is ∙ y) ∙ refusal_end)
+      local_right y = let n : 0 ≡ refusal (local_interrupt_rules u entry) = sym (refusal_go 17 [] (local_is ∙ y) ∙ refusal_end) in told (tt {0}) n

@@ -1,13 +1,14 @@
 -- An edit behind its table's own tests: 20 to 22, which only read, then the exchange with its judgement, 23; and what is known
 -- between them.
-use Rattle.std.specs.Prelude.{◌≡◌, ℕ, zero, suc, cond, List, ◌++◌, ◌==◌}
+use Rattle.std.specs.Prelude.{◌≡◌, ℕ, zero, suc, cond, List, ◌++◌, ◌==◌, Result, Ok, Err}
 use Rattle.mps.specs.Refusals.{Rule}
+use Rattle.mps.specs.Reasons.{refusal_numbered}
 use Rattle.mps.specs.Sections.{sections}
 use Rattle.mps.specs.Judge.{table_rules, table_refusal}
 use Rattle.mps.specs.Edits.{Edit, standing, edited_table, inner_refusal, entry_rules}
 use Rattle.mps.specs.declared.Sections.{Sections}
-use Rattle.mps.specs.declared.Edited.{Edited}
-use Rattle.mps.specs.declared.Edited.TheVariants.{Done, Inner}
+use Rattle.mps.specs.declared.refusals.EditRefusal.{EditRefusal}
+use Rattle.mps.specs.declared.refusals.EditRefusal.TheVariants.{Inner}
 use Rattle.accepted.proofs.Shaped.{Shaped}
 use Rattle.judge.specs.Placed.{Placed}
 
@@ -22,11 +23,11 @@ test_rules t e = table_rules t ++ entry_rules t e
 
 -- ---- The exchange
 
-abbrev pub exchanged_of : ℕ → Edited
-exchanged_of zero = Done
-exchanged_of (suc n) = Inner (suc n)
+abbrev pub exchanged_of : ℕ → Result (Unit {0}) EditRefusal
+exchanged_of zero = Ok tt
+exchanged_of (suc n) = Err (Inner (refusal_numbered (suc n)))
 
-unfoldable pub exchanged : List ℕ → Edit → Edited
+unfoldable pub exchanged : List ℕ → Edit → Result (Unit {0}) EditRefusal
 exchanged t e = exchanged_of (inner_refusal t e)
 
 unfoldable pub exchange_left : List ℕ → Edit → List ℕ

@@ -11,17 +11,18 @@ ghost use Rattle.mps.specs.Words.{part, any};
 ghost use Rattle.mps.specs.Refusals.{refusal};
 ghost use Rattle.mps.specs.Layout.{entry_size, everyone, local_apic, local_apic_step};
 ghost use Rattle.mps.specs.Sections.{rows};
-ghost use Rattle.mps.specs.Judge.{table_refusal};
+ghost use Rattle.mps.specs.Answers.{answered};
+ghost use Rattle.mps.specs.Judge.{judged};
 ghost use Rattle.judge.specs.Placed.{Placed};
 ghost use Rattle.roll.specs.Roll.{marked};
 ghost use Rattle.editor.specs.Amended.{has, ends_at, enrolled_if, roll_for, comes_from, speaks_of, processor_rules, bus_rules, io_apic_rules, io_interrupt_rules, local_interrupt_rules, Amended};
 
-use mps::{Sections, layout};
+use mps::{Refusal, Sections, layout};
 
-// The number that the table is refused with, 0 where it is accepted. The entry stands at `at`, and `old` was its ID.
-pub(super) fn number(t: &[u8], p: Sections, at: usize, old: u8) -> u8
+// What the judge would answer. The entry stands at `at`, and `old` was its ID.
+pub(super) fn judge(t: &[u8], p: Sections, at: usize, old: u8) -> Result<(), Refusal>
     requires { Amended t.now p at old }
-    ensures { result ≡ table_refusal t.now }
+    ensures { result ≡ judged t.now }
 {
     match t[at] {
         layout::PROCESSOR_TYPE => processor(t, p, old),
@@ -36,36 +37,36 @@ pub(super) fn number(t: &[u8], p: Sections, at: usize, old: u8) -> u8
 
 // 14, and 17 of local interrupts. The local APIC address is the header's, and stays.
 #[tactic(auto, using(crate::proofs::Ways::by_14, crate::proofs::Ways::local_17, crate::proofs::Ways::cpu_past))]
-fn processor(t: &[u8], p: Sections, old: u8) -> u8
+fn processor(t: &[u8], p: Sections, old: u8) -> Result<(), Refusal>
     requires { (Placed t.now p) × (local_apic t.now % local_apic_step ≡ 0) }
-    ensures { result ≡ refusal (processor_rules t.now old) }
+    ensures { result ≡ answered (refusal (processor_rules t.now old)) tt }
 {
     let mut roll: [u8; 256] = [0; 256];
     roll::put(&mut roll, layout::EVERYONE, roll::TAKEN_MARKS);
     if apics::wrong_processors(&mut roll, &t[layout::HEADER_SIZE..p.buses]) {
-        return 14;
+        return Err(Refusal::Processors);
     }
     if ends_at_lost(&roll, roll::PROCESSOR, &t[p.locals..p.mappings], old) {
-        return 17;
+        return Err(Refusal::Interrupts);
     }
-    0
+    Ok(())
 }
 
 // 16, and 17 of I/O interrupts.
 #[tactic(auto, using(crate::proofs::Ways::by_16, crate::proofs::Ways::io_17, crate::proofs::Ways::apic_past))]
-fn io_apic(t: &[u8], p: Sections, old: u8) -> u8
+fn io_apic(t: &[u8], p: Sections, old: u8) -> Result<(), Refusal>
     requires { Placed t.now p }
-    ensures { result ≡ refusal (io_apic_rules t.now old) }
+    ensures { result ≡ answered (refusal (io_apic_rules t.now old)) tt }
 {
     let mut roll: [u8; 256] = [0; 256];
     roll::put(&mut roll, layout::EVERYONE, roll::TAKEN_MARKS);
     if apics::wrong_io_apics(&mut roll, &t[p.ioapics..p.interrupts]) {
-        return 16;
+        return Err(Refusal::IoApics);
     }
     if ends_at_lost(&roll, roll::IO_APIC, &t[p.interrupts..p.locals], old) {
-        return 17;
+        return Err(Refusal::Interrupts);
     }
-    0
+    Ok(())
 }
 
 // Whether an interrupt ends at an ID that is no longer on the roll. 255 names all, whoever has it.
@@ -79,24 +80,24 @@ fn ends_at_lost(roll: &[u8; 256], k: u8, s: &[u8], old: u8) -> bool
 
 // 15, and 17 and 18 of the entries that speak of a bus.
 #[tactic(auto, using(crate::proofs::Ways::by_15, crate::proofs::Ways::bus_stays, crate::proofs::Ways::by_17, crate::proofs::Ways::by_18, crate::proofs::Ways::past_18))]
-fn bus(t: &[u8], p: Sections, old: u8) -> u8
+fn bus(t: &[u8], p: Sections, old: u8) -> Result<(), Refusal>
     requires { Placed t.now p }
-    ensures { result ≡ refusal (bus_rules t.now old) }
+    ensures { result ≡ answered (refusal (bus_rules t.now old)) tt }
 {
     let mut roll: [u8; 256] = [0; 256];
     if buses::wrong(&mut roll, &t[p.buses..p.ioapics]) {
-        return 15;
+        return Err(Refusal::Buses);
     }
     if roll::has(&roll, old, roll::BUS) {
-        return 0;
+        return Ok(());
     }
     if comes_from(t, p, old) {
-        return 17;
+        return Err(Refusal::Interrupts);
     }
     if speaks_of(t, p, old) {
-        return 18;
+        return Err(Refusal::Spaces);
     }
-    0
+    Ok(())
 }
 
 // Whether an interrupt of either side comes from a bus. All are looked for, by `|`, here and below: where the edit is done there is none.
@@ -130,9 +131,9 @@ fn speaks_of(t: &[u8], p: Sections, bus: u8) -> bool
 
 // 17, by a roll that has no more than what the entry names.
 #[tactic(auto, using(crate::proofs::Ways::entry_size_lem, crate::proofs::Ways::io_wrong_17, crate::proofs::Ways::io_right))]
-fn io_interrupt(t: &[u8], p: Sections, at: usize) -> u8
+fn io_interrupt(t: &[u8], p: Sections, at: usize) -> Result<(), Refusal>
     requires { (Placed t.now p) × (at + entry_size ≤ length t.now) }
-    ensures { result ≡ refusal (io_interrupt_rules t.now (part at (at + entry_size) t.now)) }
+    ensures { result ≡ answered (refusal (io_interrupt_rules t.now (part at (at + entry_size) t.now))) tt }
 {
     let e = &t[at..at + layout::ENTRY_SIZE];
     let mut roll: [u8; 256] = [0; 256];
@@ -145,15 +146,15 @@ fn io_interrupt(t: &[u8], p: Sections, at: usize) -> u8
         roll::IO_APIC_MARK,
     );
     if interrupts::wrong_io(e, &roll) {
-        return 17;
+        return Err(Refusal::Interrupts);
     }
-    0
+    Ok(())
 }
 
 #[tactic(auto, using(crate::proofs::Ways::entry_size_lem, crate::proofs::Ways::local_wrong_17, crate::proofs::Ways::local_right))]
-fn local_interrupt(t: &[u8], p: Sections, at: usize) -> u8
+fn local_interrupt(t: &[u8], p: Sections, at: usize) -> Result<(), Refusal>
     requires { (Placed t.now p) × (at + entry_size ≤ length t.now) }
-    ensures { result ≡ refusal (local_interrupt_rules t.now (part at (at + entry_size) t.now)) }
+    ensures { result ≡ answered (refusal (local_interrupt_rules t.now (part at (at + entry_size) t.now))) tt }
 {
     let e = &t[at..at + layout::ENTRY_SIZE];
     let mut roll: [u8; 256] = [0; 256];
@@ -166,9 +167,9 @@ fn local_interrupt(t: &[u8], p: Sections, at: usize) -> u8
         roll::PROCESSOR_MARK,
     );
     if interrupts::wrong_local(e, &roll) {
-        return 17;
+        return Err(Refusal::Interrupts);
     }
-    0
+    Ok(())
 }
 
 // The roll that an interrupt is judged by: its bus where that is listed, its destination where an entry has it, and 255.

@@ -8,62 +8,48 @@
 // then comes from the old one and both entries, and what the exchange cannot change is not judged again (module again).
 #![tactic(auto)]
 
-mod again; // the number of a table with an entry exchanged
+mod again; // the judge of a table with an entry exchanged
 
 ghost use Rattle.std.specs.Prelude.{◌≡◌, ◌+◌, ◌%◌, ◌<◌, ◌≤◌, length, slice_set};
 ghost use Rattle.std.proofs.lemmas.List.Edits.{sets};
 ghost use Rattle.mps.specs.Refusals.{refusal};
+ghost use Rattle.mps.specs.Answers.{answered};
 ghost use Rattle.mps.specs.Sums.{sum256, to_store};
 ghost use Rattle.mps.specs.Layout.{header_size, checksum_at, entry_count};
 ghost use Rattle.mps.specs.Edits.{offset_of, entry_rules, edited, edit_left};
 ghost use Rattle.editor.specs.Tested.{edit_of, Accepted, Ready, exchanged, exchange_left};
 
-use mps::{Edited, Examined, Sections, layout};
+use mps::{EditRefusal, Refusal, Sections, layout};
 
-pub fn edit(t: &mut [u8], place: usize, stated: &[u8], wanted: &[u8]) -> Edited
+pub fn edit(t: &mut [u8], place: usize, stated: &[u8], wanted: &[u8]) -> Result<(), EditRefusal>
     ensures value { result ≡ edited t.old (edit_of place stated.now wanted.now) }
     ensures t_after { t.new ≡ edit_left t.old (edit_of place stated.now wanted.now) }
 {
-    let found = judge::examine(t);
-    match found {
-        Examined::Refused(n) => Edited::Refused(n),
-        Examined::Accepted(p) => behind_table(t, p, place, stated, wanted),
-    }
-}
-
-// 20 and on, with the places of the table.
-fn behind_table(t: &mut [u8], p: Sections, place: usize, stated: &[u8], wanted: &[u8]) -> Edited
-    requires { Accepted t.old p }
-    ensures value { result ≡ edited t.old (edit_of place stated.now wanted.now) }
-    ensures t_after { t.new ≡ edit_left t.old (edit_of place stated.now wanted.now) }
-{
-    let number = test(t, p, place, stated, wanted);
-    if number != 0 {
-        return Edited::Refused(number);
-    }
+    let p = judge::examine(t)?;
+    test(t, p, place, stated, wanted)?;
     exchange(t, p, place, stated, wanted)
 }
 
-// 20 to 22, and 0 where none is given. The table is only read.
-fn test(t: &[u8], p: Sections, place: usize, stated: &[u8], wanted: &[u8]) -> u8
+// 20 to 22. The table is only read.
+fn test(t: &[u8], p: Sections, place: usize, stated: &[u8], wanted: &[u8]) -> Result<(), Refusal>
     requires { Accepted t.now p }
-    ensures { result ≡ refusal (entry_rules t.now (edit_of place stated.now wanted.now)) }
+    ensures { result ≡ answered (refusal (entry_rules t.now (edit_of place stated.now wanted.now))) tt }
 {
     let count = lengths::count(t) as usize;
     if count <= place {
-        return 20;
+        return Err(Refusal::NoEntry);
     }
     let at = offset(t, p, place);
     let kind = t[at];
     let size = entries::size(kind);
     if (stated.len() != size) | (wanted.len() != size) | (numbers::byte(wanted, 0) != kind) {
-        return 21;
+        return Err(Refusal::OtherEntry);
     }
     let standing = &t[at..at + size];
-    if slices::same(stated, standing) {
-        return 0;
+    if !slices::same(stated, standing) {
+        return Err(Refusal::Changed);
     }
-    22
+    Ok(())
 }
 
 // Where the entry at a place stands: only processors have 20 bytes, and they are the first.
@@ -79,7 +65,13 @@ fn offset(t: &[u8], p: Sections, place: usize) -> usize
 }
 
 // The exchange: the wanted entry in the stated one's stead. Taken back where the table that it makes is refused.
-fn exchange(t: &mut [u8], p: Sections, place: usize, stated: &[u8], wanted: &[u8]) -> Edited
+fn exchange(
+    t: &mut [u8],
+    p: Sections,
+    place: usize,
+    stated: &[u8],
+    wanted: &[u8],
+) -> Result<(), EditRefusal>
     requires { Ready t.old p (edit_of place stated.now wanted.now) }
     ensures value { result ≡ exchanged t.old (edit_of place stated.now wanted.now) }
     ensures t_after { t.new ≡ exchange_left t.old (edit_of place stated.now wanted.now) }
@@ -88,12 +80,11 @@ fn exchange(t: &mut [u8], p: Sections, place: usize, stated: &[u8], wanted: &[u8
     let old = t[layout::CHECKSUM];
     let new = checksum(old, stated, wanted);
     put(t, at, wanted, new);
-    let number = again::number(t, p, at, numbers::byte(stated, layout::ENTRY_ID));
-    if number == 0 {
-        return Edited::Done;
+    if let Err(inner) = again::judge(t, p, at, numbers::byte(stated, layout::ENTRY_ID)) {
+        put(t, at, stated, old);
+        return Err(EditRefusal::Inner(inner));
     }
-    put(t, at, stated, old);
-    Edited::Inner(number)
+    Ok(())
 }
 
 // The base checksum after the exchange, from the one before. With its checksum the base adds to 0: so what the stated entry gave is

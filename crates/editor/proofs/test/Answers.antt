@@ -41,14 +41,14 @@ overflow_add-standing c = let h = here_end (goal.at.overflow_add-standing c).Aft
 pub slice_bounds-standing-end : goal.slice_bounds-standing-end
 slice_bounds-standing-end c = here_end (goal.at.slice_bounds-standing-end c).After-size-size (here (goal.at.slice_bounds-standing-end c).After-offset-at)
 
-pub returns-then-same : goal.returns-then-same
-returns-then-same c =
-    let a = c.args in
-    found_seen a.t.now a.place _ (here (goal.at.returns-then-same c).After-offset-at) a.stated.now a.wanted.now
-    c.size-size.ensures c.byte.ensures c.if-stated-size.false c.same.ensures c.if-same.true
-
 pub returns : goal.returns
 returns c =
     let a = c.args in
-    found_22 a.t.now a.place _ (here (goal.at.returns c).After-offset-at) a.stated.now a.wanted.now
-    c.size-size.ensures c.byte.ensures c.if-stated-size.false c.same.ensures c.if-same.false
+    found_seen a.t.now a.place _ (here (goal.at.returns c).After-offset-at) a.stated.now a.wanted.now
+    c.size-size.ensures c.byte.ensures c.if-stated-size.false c.same.ensures c.if-not-same.false
+
+pub returns-then-not-same : goal.returns-then-not-same
+returns-then-not-same c =
+    let a = c.args in
+    found_22 a.t.now a.place _ (here (goal.at.returns-then-not-same c).After-offset-at) a.stated.now a.wanted.now
+    c.size-size.ensures c.byte.ensures c.if-stated-size.false c.same.ensures c.if-not-same.true

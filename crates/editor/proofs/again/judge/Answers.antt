@@ -1,7 +1,7 @@
 -- By the type that stands there: `of_processor` to `of_local_interrupt`.
 use Rattle.std.proofs.Common.{refl, arith}
 use Rattle.editor.proofs.Numbers.{amended_inside, amended_aligned, interrupt_inside, of_processor, of_bus, of_io_apic, of_io_interrupt, of_local_interrupt}
-use Rattle.editor.proofs.again.number.Goals as goal
+use Rattle.editor.proofs.again.judge.Goals as goal
 
 pub bounds-t-at : goal.bounds-t-at
 bounds-t-at c = amended_inside c.requires
