@@ -67,6 +67,7 @@ pub fn gather(
 // ---- Mappings
 
 // The place in the range is compared with its length: no sum that could pass 2^64.
+#[tactic(auto, unfolding(crate::specs::Marks::mapping_rank))]
 fn mapping_rank(e: &[u8], kind: u8, address: u64) -> u8
     requires { link_size ≤ length e.now }
     ensures { result ≡ mapping_rank kind address e.now }
@@ -98,6 +99,7 @@ fn mark_mappings(marks: &mut [u8; 256], s: &[u8], kind: u8, address: u64)
 // ---- Links
 
 // A link declares nothing: without the subtractive bit the bus says nothing by it.
+#[tactic(auto, unfolding(crate::specs::Marks::link_rank, mps::specs::Words::bit))]
 fn link_rank(e: &[u8]) -> u8
     requires { link_size ≤ length e.now }
     ensures { result ≡ link_rank e.now }
@@ -123,6 +125,7 @@ fn mark_links(marks: &mut [u8; 256], parents: &mut [u8; 256], s: &[u8])
 // ---- Modifiers
 
 // The lists that the address lies in: none where modifiers do not touch it.
+#[tactic(auto, unfolding(crate::specs::Marks::lists_at))]
 fn lists(kind: u8, address: u64) -> u8
     ensures { result ≡ lists_at kind address }
 {
@@ -136,6 +139,7 @@ fn lists(kind: u8, address: u64) -> u8
 }
 
 // Whether one of them is a modifier's list.
+#[tactic(auto, unfolding(crate::specs::Marks::lists_at, mps::specs::Ranges::in_list, mps::specs::Ranges::ranges_at))]
 fn touched(lists: u8, list: u32) -> bool
     ensures { (kind address : ℕ) → lists ≡ lists_at kind address → result ≡ (eqb kind 0 && in_list list address) }
 {
@@ -148,6 +152,7 @@ fn touched(lists: u8, list: u32) -> bool
     false
 }
 
+#[tactic(auto, unfolding(crate::specs::Marks::modifier_rank, mps::specs::Words::bit))]
 fn modifier_rank(e: &[u8], lists: u8) -> u8
     requires { link_size ≤ length e.now }
     ensures { (kind address : ℕ) → lists ≡ lists_at kind address → result ≡ modifier_rank kind address e.now }
