@@ -10,6 +10,7 @@ pub mod Stores
 pub mod Writes
 pub mod Cut
 pub mod Rows
+pub mod Enabled
 pub mod Small
 pub mod Refusals
 pub mod Answers

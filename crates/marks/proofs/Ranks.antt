@@ -3,7 +3,7 @@
 use Prim.Native.Nat.{ℕ, zero, suc, ◌+◌, ◌-◌, ◌*◌, ◌/◌, ◌%◌, ◌≤◌, ◌<◌, max}
 use mathlib.Core.Path.{◌≡◌, refl, sym, ◌∙◌}
 use mathlib.Core.Bool.{Bool, true, false, cond, ◌||◌, ◌&&◌}
-use mathlib.Core.List.{List, ◌∷◌}
+use mathlib.Core.List.{List, ◌∷◌, ◌++◌}
 use native.Mathlib.Omega.{arith}
 use native.Mathlib.Nat.{div-one}
 use lib.ListN.{length, get_or, set, drop}
@@ -14,7 +14,7 @@ use Rattle.mps.specs.Words.{bit, byte, flag, part}
 use Rattle.mps.specs.Ranges.{isa, vga, ranges_at, in_list}
 use Rattle.mps.specs.Layout.{Entry, modified_below, extended_bus, space_kind, space_base, space_length, parent_bus, range_list}
 use Rattle.mps.specs.Sections.{rows}
-use Rattle.laws.proofs.Rows.{rows_done, rows_next, row_byte}
+use Rattle.laws.proofs.Rows.{rows_short, rows_cut}
 use Rattle.marks.specs.Marks.{mapping_rank, link_rank, modifier_rank, marked, parented, said_beside, said_below, lists_at}
 
 -- ---- The lists that an address lies in
@@ -143,53 +143,26 @@ beside_free (suc (suc (suc (suc mark)))) n m = refl
 
 -- ---- Steps of the loops over the rows: nothing whole is left, or the row there is put to its bus
 
-module _ (n : ℕ) (s : List ℕ) (at : ℕ) (h : at ≤ length s) where
-  module _ (f : length s - at < n) where
-    pub marked_done : (place rank : Entry → ℕ) (marks : List ℕ) → marked place rank marks (rows n (drop at s)) ≡ marks
+module _ (n : ℕ) (rest : List ℕ) where
+  module _ (place rank : Entry → ℕ) (marks : List ℕ) where
+    pub marked_done : length rest < n → marked place rank marks (rows n rest) ≡ marks
     unfolding marked
-    marked_done place rank marks = rw (rows_done n s at h f)
+    marked_done f = rw (rows_short n rest f)
 
-    pub parented_done : (parents : List ℕ) → parented parents (rows n (drop at s)) ≡ parents
+    pub marked_next :
+        (e left : List ℕ) → 0 < n → length e ≡ n → rest ≡ e ++ left
+        → (bus mark said : ℕ) → bus ≡ place e → said ≡ rank e → mark ≡ max (get_or marks bus 0) said
+        → marked place rank marks (rows n rest) ≡ marked place rank (set marks bus mark) (rows n left)
+    unfolding marked
+    marked_next e left z h c bus mark said b r m = rw (c, rows_cut n e left z h, marked, m, r, b)
+
+  module _ (parents : List ℕ) where
+    pub parented_done : length rest < n → parented parents (rows n rest) ≡ parents
     unfolding parented
-    parented_done parents = rw (rows_done n s at h f)
+    parented_done f = rw (rows_short n rest f)
 
-  module _ (z : 8 ≤ n) (f : n ≤ length s - at) where
-    row : Entry
-    row = part at (at + n) s
-
-    row_there : rows n (drop at s) ≡ row ∷ rows n (drop (at + n) s)
-    unfolding row
-    row_there =
-        let width : at + n - at ≡ n = omega arith in
-        rw width (rows_next n s at (omega arith) h f)
-
-    row_byte_at : (i : ℕ) → i < 8 → get_or row i 0 ≡ get_or s (at + i) 0
-    unfolding row
-    row_byte_at i l =
-        let width : at + n - at ≡ n = omega arith in
-        rw width (row_byte n s at i (omega arith))
-
-    -- What a row says is put to the bus at the place that it names: its own, or its parent.
-    module _ (place rank : Entry → ℕ) (marks : List ℕ) (bus said mark : ℕ) (e : said ≡ rank row) (g : mark ≡ max (get_or marks bus 0) said) where
-      marked_row : place row ≡ bus
-          → marked place rank marks (rows n (drop at s)) ≡ marked place rank (set marks bus mark) (rows n (drop (at + n) s))
-      unfolding marked
-      marked_row b = rw (row_there, marked, b, g, e)
-
-    pub marked_next : (rank : Entry → ℕ) (marks : List ℕ) (bus said mark : ℕ) → bus ≡ get_or s (at + 2) 0
-        → said ≡ rank (part at (at + n) s) → mark ≡ max (get_or marks bus 0) said
-        → marked extended_bus rank marks (rows n (drop at s)) ≡ marked extended_bus rank (set marks bus mark) (rows n (drop (at + n) s))
-    unfolding row
-    marked_next rank marks bus said mark b e g = marked_row extended_bus rank marks bus said mark e g (row_byte_at 2 (omega arith) ∙ sym b)
-
-    pub parented_next : (parents : List ℕ) (bus : ℕ) → bus ≡ get_or s (at + 2) 0
-        → parented parents (rows n (drop at s)) ≡ parented (set parents bus (get_or s (at + 4) 0)) (rows n (drop (at + n) s))
+    pub parented_next :
+        (e left : List ℕ) → 0 < n → length e ≡ n → rest ≡ e ++ left → (bus : ℕ) → bus ≡ extended_bus e
+        → parented parents (rows n rest) ≡ parented (set parents bus (parent_bus e)) (rows n left)
     unfolding parented
-    parented_next parents bus b = rw (row_there, parented, row_byte_at 2 (omega arith), ← b, row_byte_at 4 (omega arith))
-
-    pub below_next : (marks below after : List ℕ) (bus up said : ℕ) → bus ≡ get_or s (at + 2) 0 → up ≡ get_or s (at + 4) 0
-        → said ≡ said_beside (get_or marks bus 0) → after ≡ set below up (max (get_or below up 0) said)
-        → said_below marks below (rows n (drop at s)) ≡ said_below marks after (rows n (drop (at + n) s))
-    below_next marks below after bus up said b u e g =
-        rw g (marked_row parent_bus (λ r. said_beside (byte marks (extended_bus r))) below up said _
-        (e ∙ rw (row_byte_at 2 (omega arith), ← b)) refl (row_byte_at 4 (omega arith) ∙ sym u))
+    parented_next e left z h c bus b = rw (c, rows_cut n e left z h, parented, b)

@@ -64,12 +64,6 @@ pub fn gather(
     mark_below(below, marks, links);
 }
 
-fn higher(a: u8, b: u8) -> u8
-    ensures { result ≡ max a b }
-{
-    if a < b { b } else { a }
-}
-
 // ---- Mappings
 
 // The place in the range is compared with its length: no sum that could pass 2^64.
@@ -91,15 +85,13 @@ fn mapping_rank(e: &[u8], kind: u8, address: u64) -> u8
     DECLARED
 }
 
+#[tactic(auto, using(crate::proofs::Ranks::marked_done, crate::proofs::Ranks::marked_next))]
 fn mark_mappings(marks: &mut [u8; 256], s: &[u8], kind: u8, address: u64)
     ensures { marks.new ≡ marked extended_bus (mapping_rank kind address) marks.old (rows mapping_size s.now) }
 {
-    let mut at = 0;
-    while layout::MAPPING_SIZE <= s.len() - at {
-        let bus = numbers::wide(s[at + layout::EXTENDED_BUS]) as usize;
-        let said = mapping_rank(&s[at..at + layout::MAPPING_SIZE], kind, address);
-        marks[bus] = higher(marks[bus], said);
-        at += layout::MAPPING_SIZE;
+    for e in s.chunks_exact(layout::MAPPING_SIZE) {
+        let bus = usize::from(e[layout::EXTENDED_BUS]);
+        marks[bus] = marks[bus].max(mapping_rank(e, kind, address));
     }
 }
 
@@ -116,17 +108,15 @@ fn link_rank(e: &[u8]) -> u8
     UNDECLARED
 }
 
+#[tactic(auto, using(crate::proofs::Ranks::marked_done, crate::proofs::Ranks::marked_next, crate::proofs::Ranks::parented_done, crate::proofs::Ranks::parented_next))]
 fn mark_links(marks: &mut [u8; 256], parents: &mut [u8; 256], s: &[u8])
     ensures marks_after { marks.new ≡ marked extended_bus link_rank marks.old (rows link_size s.now) }
     ensures parents_after { parents.new ≡ parented parents.old (rows link_size s.now) }
 {
-    let mut at = 0;
-    while layout::LINK_SIZE <= s.len() - at {
-        let bus = numbers::wide(s[at + layout::EXTENDED_BUS]) as usize;
-        let said = link_rank(&s[at..at + layout::LINK_SIZE]);
-        parents[bus] = s[at + layout::PARENT_BUS];
-        marks[bus] = higher(marks[bus], said);
-        at += layout::LINK_SIZE;
+    for e in s.chunks_exact(layout::LINK_SIZE) {
+        let bus = usize::from(e[layout::EXTENDED_BUS]);
+        parents[bus] = e[layout::PARENT_BUS];
+        marks[bus] = marks[bus].max(link_rank(e));
     }
 }
 
@@ -172,16 +162,14 @@ fn modifier_rank(e: &[u8], lists: u8) -> u8
 }
 
 // The lists are looked up once.
+#[tactic(auto, using(crate::proofs::Ranks::marked_done, crate::proofs::Ranks::marked_next))]
 fn mark_modifiers(marks: &mut [u8; 256], s: &[u8], kind: u8, address: u64)
     ensures { marks.new ≡ marked extended_bus (modifier_rank kind address) marks.old (rows link_size s.now) }
 {
     let lists = lists(kind, address);
-    let mut at = 0;
-    while layout::LINK_SIZE <= s.len() - at {
-        let bus = numbers::wide(s[at + layout::EXTENDED_BUS]) as usize;
-        let said = modifier_rank(&s[at..at + layout::LINK_SIZE], lists);
-        marks[bus] = higher(marks[bus], said);
-        at += layout::LINK_SIZE;
+    for e in s.chunks_exact(layout::LINK_SIZE) {
+        let bus = usize::from(e[layout::EXTENDED_BUS]);
+        marks[bus] = marks[bus].max(modifier_rank(e, lists));
     }
 }
 
@@ -207,18 +195,16 @@ fn raise(below: &mut [u8; 256], at: usize, said: u8)
     if said == FREE {
         return;
     }
-    below[at] = higher(below[at], said);
+    below[at] = below[at].max(said);
 }
 
 // A bus that asks its parent says nothing below it: so no bus that the climb comes from is counted beside itself.
+#[tactic(auto, using(crate::proofs::Ranks::marked_done, crate::proofs::Ranks::marked_next))]
 fn mark_below(below: &mut [u8; 256], marks: &[u8; 256], s: &[u8])
     ensures { below.new ≡ said_below marks.now below.old (rows link_size s.now) }
 {
-    let mut at = 0;
-    while layout::LINK_SIZE <= s.len() - at {
-        let bus = numbers::wide(s[at + layout::EXTENDED_BUS]) as usize;
-        let parent = numbers::wide(s[at + layout::PARENT_BUS]) as usize;
-        raise(below, parent, beside(marks[bus]));
-        at += layout::LINK_SIZE;
+    for e in s.chunks_exact(layout::LINK_SIZE) {
+        let said = beside(marks[usize::from(e[layout::EXTENDED_BUS])]);
+        raise(below, usize::from(e[layout::PARENT_BUS]), said);
     }
 }

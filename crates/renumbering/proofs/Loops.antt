@@ -1,15 +1,15 @@
 -- What the two loops keep. Assumes nothing.
-use Prim.Native.Nat.{ℕ, ◌+◌, ◌-◌, ◌%◌, ◌≤◌, ◌<◌}
+use Prim.Native.Nat.{ℕ, ◌+◌, ◌%◌, ◌≤◌, ◌<◌}
 use mathlib.Core.Path.{◌≡◌, refl, ap}
-use mathlib.Core.List.{List, [], ◌∷◌}
+use mathlib.Core.List.{List, [], ◌∷◌, ◌++◌}
 use native.Mathlib.Omega.{arith}
-use lib.ListN.{length, get_or, set, drop}
+use lib.ListN.{length, get_or, set, length-append}
 use lib.Seq.{sets}
-use Rattle.mps.specs.Layout.{everyone}
+use Rattle.mps.specs.Layout.{id_of, everyone}
+use Rattle.laws.proofs.Enabled.{ids_end, ids_on, ids_off}
 use Rattle.laws.proofs.Counting.{Below, below_first, below_rest}
 use Rattle.laws.proofs.Writes.{Writes, writes_done, writes_next}
 use Rattle.apics.specs.Enabled.{enabled_in}
-use Rattle.apics.proofs.Enabled.{enabled_done, enabled_on, enabled_off}
 use Rattle.sets.specs.Sets.{with_number, put_all}
 use Rattle.renumbering.specs.Giving.{number_in, own_with, numbers_in}
 use Rattle.renumbering.proofs.Laws.{length_in}
@@ -17,76 +17,77 @@ use Rattle.renumbering.proofs.Laws.{length_in}
 -- ---- hold
 
 -- With the IDs of the rows left it comes to those of all, in number and in the set.
-abbrev pub Puts : List ℕ → List ℕ → ℕ → List ℕ → ℕ → ℕ → Type 0
-Puts set₀ s n set count at =
-    (at ≤ length s)
-    × (count ≤ at)
-    × (count + length (enabled_in n (drop at s)) ≡ length (enabled_in n s))
-    × (put_all set (enabled_in n (drop at s)) ≡ put_all set₀ (enabled_in n s))
+pub record Puts (set₀ s : List ℕ) (n : ℕ) (set : List ℕ) (count : ℕ) (rest : List ℕ) : Type 0 where
+  pub few : count + length rest ≤ length s
+  pub number : count + length (enabled_in n rest) ≡ length (enabled_in n s)
+  pub words : put_all set (enabled_in n rest) ≡ put_all set₀ (enabled_in n s)
 
-module _ (set₀ s : List ℕ) (n : ℕ) (words : List ℕ) (count at : ℕ) (inv : Puts set₀ s n words count at) where
-  pub puts_done : length s - at < n → (count ≡ length (enabled_in n s)) × (words ≡ put_all set₀ (enabled_in n s))
-  unfolding put_all
+module _ {set₀ s : List ℕ} {n : ℕ} {words : List ℕ} {count : ℕ} {rest : List ℕ} (inv : Puts set₀ s n words count rest) where
+  pub puts_done : length rest < n → (count ≡ length (enabled_in n s)) × (words ≡ put_all set₀ (enabled_in n s))
+  unfolding put_all enabled_in
   puts_done f =
-      let none = enabled_done n s at inv.0 f in
-      (omega (arith, inv.2, ap length none), rw none at inv.3)
+      let none = ids_end n rest f in
+      (omega (arith, inv.number, ap length none), rw none at inv.words)
 
-  module _ (z : 4 ≤ n) (f : n ≤ length s - at) where
-    pub puts_off : (get_or s (at + 3) 0 % 2 ≡ 1 → ⊥) → Puts set₀ s n words count (at + n)
+  module _ (e left : List ℕ) (z : 4 ≤ n) (h : length e ≡ n) (c : rest ≡ e ++ left) where
+    pub puts_off : (get_or e 3 0 % 2 ≡ 1 → ⊥) → Puts set₀ s n words count left
+    unfolding enabled_in
     puts_off p =
-        let same = enabled_off n s at inv.0 z f p in
-        (omega (arith, f, inv.0), omega (arith, inv.1), rw same at inv.2, rw same at inv.3)
+        let same = ids_off n rest e left (omega arith) h c p in
+        record { few = omega (arith, inv.few, ap length c, length-append e left); number = rw same at inv.number; words = rw same at inv.words }
 
     pub puts_on :
-        get_or s (at + 3) 0 % 2 ≡ 1 → {more : List ℕ} → more ≡ with_number words (get_or s (at + 1) 0) → Puts set₀ s n more (count + 1) (at + n)
-    unfolding put_all
-    puts_on p e =
-        let here = enabled_on n s at inv.0 z f p in
-        (omega (arith, f, inv.0), omega (arith, inv.1, f), omega (arith, inv.2, ap length here), rw e (rw here at inv.3))
+        get_or e 3 0 % 2 ≡ 1 → {more : List ℕ} → more ≡ with_number words (id_of e) → Puts set₀ s n more (count + 1) left
+    unfolding put_all enabled_in
+    puts_on p q =
+        let here = ids_on n rest e left (omega arith) h c p in
+        record {
+          few = omega (arith, inv.few, ap length c, length-append e left, h, z);
+          number = omega (arith, inv.number, ap length here);
+          words = rw q (rw here at inv.words);
+        }
 
 -- ---- give
 
 -- With the numbers of the rows left it comes to those of all.
-abbrev pub Gives : List ℕ → List ℕ → List ℕ → List ℕ → List ℕ → List ℕ → ℕ → ℕ → Type 0
-Gives out₀ own₀ cpus s out own place at =
-    (at ≤ length s)
-    × Writes out₀ 0 (numbers_in cpus own₀ (enabled_in 8 s)) out place (numbers_in cpus own (enabled_in 8 (drop at s)))
-    × Below everyone (numbers_in cpus own (enabled_in 8 (drop at s)))
+pub record Gives (out₀ own₀ cpus s out own : List ℕ) (place : ℕ) (rest : List ℕ) : Type 0 where
+  pub writes : Writes out₀ 0 (numbers_in cpus own₀ (enabled_in 8 s)) out place (numbers_in cpus own (enabled_in 8 rest))
+  pub below : Below everyone (numbers_in cpus own (enabled_in 8 rest))
 
-module _ (out₀ own₀ cpus s out own : List ℕ) (place at : ℕ) (inv : Gives out₀ own₀ cpus s out own place at) where
-  pub gives_done : length s - at < 8 → out ≡ sets out₀ 0 (numbers_in cpus own₀ (enabled_in 8 s))
-  unfolding numbers_in
-  gives_done f = (writes_done inv.1 (rw (enabled_done 8 s at inv.0 f))).1
+module _ {out₀ own₀ cpus s out own : List ℕ} {place : ℕ} {rest : List ℕ} (inv : Gives out₀ own₀ cpus s out own place rest) where
+  pub gives_done : length rest < 8 → out ≡ sets out₀ 0 (numbers_in cpus own₀ (enabled_in 8 s))
+  unfolding numbers_in enabled_in
+  gives_done f = (writes_done inv.writes (rw (ids_end 8 rest f))).1
 
-  module _ (f : 8 ≤ length s - at) where
-    pub gives_off : (get_or s (at + 3) 0 % 2 ≡ 1 → ⊥) → Gives out₀ own₀ cpus s out own place (at + 8)
+  module _ (e left : List ℕ) (h : length e ≡ 8) (c : rest ≡ e ++ left) where
+    pub gives_off : (get_or e 3 0 % 2 ≡ 1 → ⊥) → Gives out₀ own₀ cpus s out own place left
+    unfolding enabled_in
     gives_off p =
-        let same = enabled_off 8 s at inv.0 (omega arith) f p in
-        (omega (arith, f, inv.0), rw same at inv.1, rw same at inv.2)
+        let same = ids_off 8 rest e left (omega arith) h c p in
+        record { writes = rw same at inv.writes; below = rw same at inv.below }
 
-    module _ (p : get_or s (at + 3) 0 % 2 ≡ 1) where
+    module _ (p : get_or e 3 0 % 2 ≡ 1) where
       abbrev number : ℕ
-      number = number_in cpus own (get_or s (at + 1) 0)
+      number = number_in cpus own (id_of e)
 
       abbrev others : List ℕ
-      others = numbers_in cpus (own_with cpus own (get_or s (at + 1) 0)) (enabled_in 8 (drop (at + 8) s))
+      others = numbers_in cpus (own_with cpus own (id_of e)) (enabled_in 8 left)
 
-      next : numbers_in cpus own (enabled_in 8 (drop at s)) ≡ number ∷ others
-      unfolding numbers_in
-      next = rw (enabled_on 8 s at inv.0 (omega arith) f p)
+      next : numbers_in cpus own (enabled_in 8 rest) ≡ number ∷ others
+      unfolding numbers_in enabled_in
+      next = rw (ids_on 8 rest e left (omega arith) h c p)
 
       -- It is a byte, and there is room for it.
       pub gives_small : number < everyone
-      gives_small = below_first everyone number others (rw next at inv.2)
+      gives_small = below_first everyone number others (rw next at inv.below)
 
       pub gives_room : length (enabled_in 8 s) ≤ length out₀ → place < length out
-      gives_room h = omega (arith, h, inv.1.end, inv.1.room, ap length next, length_in cpus own₀ (enabled_in 8 s))
+      gives_room k = omega (arith, k, inv.writes.end, inv.writes.room, ap length next, length_in cpus own₀ (enabled_in 8 s))
 
       pub gives_on :
-          {n : ℕ} {u : List ℕ} → n ≡ number → u ≡ own_with cpus own (get_or s (at + 1) 0)
-          → Gives out₀ own₀ cpus s (set out place n) u (place + 1) (at + 8)
-      gives_on e g = (
-        omega (arith, f, inv.0),
-        rw (e, g) (writes_next inv.1 (number ∷ []) others next refl refl),
-        rw g (below_rest everyone number others (rw next at inv.2)),
-      )
+          {n : ℕ} {u : List ℕ} → n ≡ number → u ≡ own_with cpus own (id_of e)
+          → Gives out₀ own₀ cpus s (set out place n) u (place + 1) left
+      gives_on q g = record {
+        writes = rw (q, g) (writes_next inv.writes (number ∷ []) others next refl refl);
+        below = rw g (below_rest everyone number others (rw next at inv.below));
+      }

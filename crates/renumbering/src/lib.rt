@@ -68,7 +68,7 @@ fn of_table(t: &[u8], p: Sections, out: &mut [u8]) -> Renumbered
     }
     give(out, &mut own, &processors, apics);
     Renumbered::Given {
-        count: count,
+        count,
         used: held + count,
     }
 }
@@ -83,20 +83,18 @@ fn hold(set: &mut [u64; 4], s: &[u8], size: usize) -> usize
     let mut k = 0;
     let mut word = set[0];
     let mut count = 0;
-    let mut at = 0;
-    while size <= s.len() - at {
-        if s[at + layout::APIC_FLAGS] % 2 == 1 {
-            let id = s[at + layout::ENTRY_ID];
-            let own = (id / 64) as usize;
+    for e in s.chunks_exact(size) {
+        if e[layout::APIC_FLAGS] % 2 == 1 {
+            let id = e[layout::ENTRY_ID];
+            let own = usize::from(id / 64);
             if own != k {
                 set[k] = word;
                 k = own;
                 word = set[k];
             }
-            word = word | (1 << (id % 64));
+            word |= 1 << (id % 64);
             count += 1;
         }
-        at += size;
     }
     set[k] = word;
     count
@@ -123,13 +121,11 @@ fn give(out: &mut [u8], own: &mut [u64; 4], processors: &[u64; 4], s: &[u8])
     ensures { out.new ≡ sets out.old 0 (numbers_in processors.now own.old (enabled_in entry_size s.now)) }
 {
     let mut place = 0;
-    let mut at = 0;
-    while layout::ENTRY_SIZE <= s.len() - at {
-        let flags = s[at + layout::APIC_FLAGS];
+    for e in s.chunks_exact(layout::ENTRY_SIZE) {
+        let flags = e[layout::APIC_FLAGS];
         if flags % 2 == 1 {
-            out[place] = number(own, processors, s[at + layout::ENTRY_ID]);
+            out[place] = number(own, processors, e[layout::ENTRY_ID]);
             place += 1;
         }
-        at += layout::ENTRY_SIZE;
     }
 }

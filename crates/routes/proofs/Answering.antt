@@ -1,25 +1,24 @@
 -- What a side answers: from the IDs gathered to the pairs told and written, and of which parts of the table. Assumes nothing.
-use Prim.Native.Nat.{ℕ, zero, suc, ◌+◌, ◌-◌, ◌*◌, ◌/◌, ◌≤◌, ◌<◌}
+use Prim.Native.Nat.{ℕ, ◌-◌, ◌*◌, ◌/◌, ◌≤◌, ◌<◌}
 use mathlib.Core.Path.{◌≡◌, refl, sym, ap, ◌∙◌}
 use mathlib.Core.Bool.{Bool, true, false}
 use mathlib.Core.List.{List}
 use native.Mathlib.Nat.{mul_assoc}
 use native.Mathlib.Omega.{arith}
-use native.Mathlib.Numerals.{add-one}
 use lib.ListN.{length, take, drop, replicate}
 use lib.Seq.{sets, length-sets, take_at}
 use lib.Dec.{leb}
-use borrow.Author.Tests.{lt-ltb, le-ltb, ltb-true, ltb-false, le-leb, leb-true, leb-false}
+use Rattle.std.specs.Prelude.{Result, Ok, Err}
+use borrow.Author.Tests.{le-leb, leb-true, leb-false}
 use Rattle.mps.specs.Words.{keep, twice, part}
-use Rattle.mps.specs.Refusals.{room_number}
 use Rattle.mps.specs.Layout.{Entry, of_type, io_interrupt_type, local_interrupt_type, header_size, processor_size, entry_size, enabled, destination, base_entries}
 use Rattle.mps.specs.Sections.{rows}
 use Rattle.mps.specs.Judge.{table_refusal}
-use Rattle.mps.specs.Rooms.{too_small, fit_left}
+use Rattle.mps.specs.Rooms.{fit_left}
 use Rattle.mps.specs.Routes.{pair_size}
 use Rattle.mps.specs.declared.Sections.{Sections}
-use Rattle.mps.specs.declared.Lent.TheVariants.{Count, Refused}
-use Rattle.laws.proofs.Tests.{whether}
+use Rattle.mps.specs.declared.refusals.Refusal.{Refusal}
+use Rattle.mps.specs.declared.refusals.Refusal.TheVariants.{RoomTooSmall}
 use Rattle.laws.proofs.Small.{Bytes, small_keep, small_rows, below_each}
 use Rattle.laws.proofs.Pigeons.{bytes_most}
 use Rattle.laws.proofs.Stores.{sets_at_start}
@@ -29,12 +28,13 @@ use Rattle.laws.proofs.Lists.{keep_most}
 use Rattle.judge.specs.Placed.{Placed}
 use Rattle.accepted.proofs.Sound.{sound, entries_least}
 use Rattle.apics.specs.Enabled.{enabled_in}
-use Rattle.routes.specs.Pairs.{side_of, pairs_of, named, pairs_for, pairs_in, count_in, told, meant}
+use Rattle.routes.specs.declared.Side.{Side as Asked}
+use Rattle.routes.specs.declared.Side.TheVariants.{Io, Local}
+use Rattle.routes.specs.Pairs.{side_of, pairs_of, named, pairs_for, pairs_in, count_in, paired}
 use Rattle.roll.specs.Roll.{taken_bit, enrolled, OnRoll}
 use Rattle.roll.proofs.Laws.{enrolled_on}
 use Rattle.routes.proofs.Laws.{length_pairs, pairs_count, kept_most, io_apart, local_apart, io_pairs, local_pairs}
 use Rattle.routes.proofs.Counting.{named_most}
-use Rattle.routes.proofs.Numbers.{paired}
 
 -- ---- One side
 
@@ -59,37 +59,16 @@ module _ (places ids : List ℕ) (h : length ids ≤ length places) {n : ℕ} {l
       → OnRoll taken_bit roll (take (n - 0) list) × (length (take (n - 0) list) ≤ length places)
   ids_known g = rw (ids_read, g) (enrolled_on taken_bit 256 ids refl, h)
 
--- What a number that a side has told means.
-pub meant_none : {n : ℕ} → n ≡ 0 → Refused room_number ≡ meant n
-unfolding meant
-meant_none z = rw z
-
-pub meant_some : (n : ℕ) → (n ≡ 0 → ⊥) → Count (n - 1) ≡ meant n
-unfolding meant
-meant_some zero z = absurd (z refl)
-meant_some (suc n) z = ap Count (omega arith)
-
--- What is told of pairs, and what is left in the room.
-abbrev pub Gives : List ℕ → List ℕ → ℕ → List ℕ → Type 0
-Gives pairs room n u = (n ≡ told pairs room) × (u ≡ fit_left pairs room)
+-- What is answered of pairs, and what is left in the room.
+abbrev pub Gives : List ℕ → List ℕ → Result ℕ Refusal → List ℕ → Type 0
+Gives pairs room r u = (r ≡ paired pairs room) × (u ≡ fit_left pairs room)
 
 module _ (pairs room : List ℕ) where
-  gives_short : length room < length pairs → Gives pairs room 0 room
-  unfolding told too_small
-  gives_short h = (rw (lt-ltb (length room) (length pairs) h), (fit_short pairs 0 room h).1)
+  gives_short : length room < length pairs → Gives pairs room (Err RoomTooSmall) room
+  gives_short h = fit_short pairs (length pairs / pair_size) room h
 
-  gives_put : {n : ℕ} {u : List ℕ} → n ≡ length pairs → length pairs ≤ length room → u ≡ sets room 0 pairs
-      → Gives pairs room (n / pair_size + 1) u
-  unfolding told too_small
-  gives_put e h q = (rw (le-ltb (length room) (length pairs) h, e), (fit_put pairs 0 room refl h q).1)
-
-  -- The answer that the number stands for.
-  pub told_meant : meant (told pairs room) ≡ paired pairs room
-  unfolding meant told too_small
-  told_meant =
-      whether (too_small (length pairs) room)
-      (λ s. rw s (fit_short pairs (length pairs / pair_size) room (ltb-true (length room) (length pairs) s)).0)
-      (λ s. rw (s, add-one (length pairs / pair_size)) (fit_put pairs (length pairs / pair_size) room refl (ltb-false (length room) (length pairs) s) refl).0)
+  gives_put : {n : ℕ} {u : List ℕ} → n ≡ length pairs → length pairs ≤ length room → u ≡ sets room 0 pairs → Gives pairs room (Ok (n / pair_size)) u
+  gives_put e h q = fit_put pairs (length pairs / pair_size) room (ap (λ k. k / pair_size) e) h q
 
 -- Whether they fit: there is room for a pair for each ID in each entry, or for as many as were counted.
 module _ (ids : List ℕ) (p : Entry → Bool) (s : List ℕ) (room : ℕ) where
@@ -112,7 +91,7 @@ module _ (ids : List ℕ) (p : Entry → Bool) (s : List ℕ) (room : ℕ) where
 -- The IDs as they were read, and whether the pairs fit.
 module _ (ids : List ℕ) (p : Entry → Bool) (es : List Entry) (room : List ℕ) {read : List ℕ} (same : read ≡ ids)
     {fit : Bool} (e : fit ≡ leb (length (pairs_in read p es)) (length room)) where
-  pub answer_short : fit ≡ false → Gives (pairs_in ids p es) room 0 room
+  pub answer_short : fit ≡ false → Gives (pairs_in ids p es) room (Err RoomTooSmall) room
   answer_short h =
       gives_short (pairs_in ids p es) room (leb-false (length (pairs_in ids p es)) (length room) (sym (rw same at e) ∙ h))
 
@@ -121,7 +100,7 @@ module _ (ids : List ℕ) (p : Entry → Bool) (es : List Entry) (room : List �
     answer_room = leb-true (length (pairs_in read p es)) (length room) (sym e ∙ h)
 
     pub answer_put : {n : ℕ} {u : List ℕ} → n ≡ length (pairs_in read p es) → u ≡ sets room 0 (pairs_in read p es)
-        → Gives (pairs_in ids p es) room (n / pair_size + 1) u
+        → Gives (pairs_in ids p es) room (Ok (n / pair_size)) u
     answer_put k q = gives_put (pairs_in ids p es) room (rw same at k) (rw same at answer_room) (rw same at q)
 
 -- ---- The sides of a table
@@ -143,13 +122,13 @@ module _ (t : List ℕ) (p : Sections) (a : table_refusal t ≡ 0) (placed : Pla
   local_ready = (omega arith, local_apart t p placed a, entries_few t a local_interrupt_type _ placed.locals)
 
   -- The answer of a side.
-  module _ (local : Bool) (test : Entry → Bool) (room : List ℕ) {n : ℕ} {u : List ℕ} where
-    pub io_gives : local ≡ false
-        → Gives (pairs_in (enabled_in entry_size (part p.ioapics p.interrupts t)) test (rows entry_size (part p.interrupts p.locals t))) room n u
-        → Gives (pairs_of (side_of local) test t) room n u
+  module _ (side : Asked) (test : Entry → Bool) (room : List ℕ) {r : Result ℕ Refusal} {u : List ℕ} where
+    pub io_gives : side ≡ Io
+        → Gives (pairs_in (enabled_in entry_size (part p.ioapics p.interrupts t)) test (rows entry_size (part p.interrupts p.locals t))) room r u
+        → Gives (pairs_of (side_of side) test t) room r u
     io_gives l g = rw (l, io_pairs t p placed a test) g
 
-    pub local_gives : local ≡ true
-        → Gives (pairs_in (enabled_in processor_size (part header_size p.buses t)) test (rows entry_size (part p.locals p.mappings t))) room n u
-        → Gives (pairs_of (side_of local) test t) room n u
+    pub local_gives : side ≡ Local
+        → Gives (pairs_in (enabled_in processor_size (part header_size p.buses t)) test (rows entry_size (part p.locals p.mappings t))) room r u
+        → Gives (pairs_of (side_of side) test t) room r u
     local_gives l g = rw (l, local_pairs t p placed a test) g

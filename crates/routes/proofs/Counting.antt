@@ -1,43 +1,40 @@
 -- Laws of what the passes over a side's entries do: ask an entry, count what it names, gather the IDs. Assumes nothing.
-use Prim.Native.Nat.{ℕ, ◌+◌, ◌-◌, ◌*◌, ◌%◌, ◌≤◌, ◌<◌}
+use Prim.Native.Nat.{ℕ, ◌+◌, ◌*◌, ◌%◌, ◌≤◌, ◌<◌}
 use mathlib.Core.Path.{◌≡◌, ap, sym, ◌∙◌}
 use mathlib.Core.Bool.{Bool, true, false, cond, ◌&&◌, and-true, and-false}
-use mathlib.Core.List.{List, [], ◌∷◌}
+use mathlib.Core.List.{List, [], ◌∷◌, ◌++◌}
 use native.Mathlib.Omega.{arith}
 use native.Mathlib.Numerals.{add-one}
 use lib.Dec.{eqb}
-use lib.ListN.{length, get_or, set, take, drop}
-use lib.Seq.{sets}
+use lib.ListN.{length, get_or, set, take, drop, length-append}
+use lib.Seq.{drop-cons, sets}
 use borrow.Author.Tests.{eq-eqb, ne_eqb}
 use Rattle.mps.specs.Words.{among, keep, each}
 use Rattle.mps.specs.Sums.{total}
-use Rattle.mps.specs.Layout.{Entry, bus_slots}
+use Rattle.mps.specs.Layout.{Entry, id_of, interrupt_type, source_bus, source_irq, destination, bus_slots}
 use Rattle.mps.specs.Sections.{rows}
 use Rattle.laws.proofs.Tests.{whether}
 use Rattle.laws.proofs.Lists.{among_at, keep_in, keep_out}
-use Rattle.laws.proofs.Rows.{rows_done, rows_next, row_byte}
+use Rattle.laws.proofs.Rows.{rows_short, rows_cut}
+use Rattle.laws.proofs.Enabled.{ids_end, ids_on, ids_off}
 use Rattle.apics.specs.Enabled.{enabled_in}
-use Rattle.apics.proofs.Enabled.{enabled_done, enabled_on, enabled_off}
 use Rattle.roll.specs.Roll.{taken_bit, marked, with_marks, enrolled, OnRoll}
 use Rattle.routes.specs.Pairs.{wired, named, count_in}
 
 -- ---- wired
 
 -- The IRQ's byte, or what its low bits are: `own`.
-module _ (itype bus irq : ℕ) (low : Bool) (s : List ℕ) (at : ℕ) {own : ℕ} (f : own ≡ cond low (get_or s (at + 5) 0 % bus_slots) (get_or s (at + 5) 0)) where
-  wired_by : wired itype bus irq low (take 8 (drop at s)) ≡ (eqb (get_or s (at + 1) 0) itype && eqb (get_or s (at + 4) 0) bus && eqb own irq)
+module _ (itype bus irq : ℕ) (low : Bool) (e : Entry) {own : ℕ} (f : own ≡ cond low (source_irq e % bus_slots) (source_irq e)) where
+  wired_by : wired itype bus irq low e ≡ (eqb (interrupt_type e) itype && eqb (source_bus e) bus && eqb own irq)
   unfolding wired
-  wired_by =
-      let row = row_byte 8 s at in
-      rw (row 1 (omega arith), row 4 (omega arith), row 5 (omega arith), f)
+  wired_by = rw f
 
   -- The IRQ is another, or the rest decides.
-  pub wired_other : (own ≡ irq → ⊥) → false ≡ wired itype bus irq low (take 8 (drop at s))
-  wired_other n = rw (wired_by, ne_eqb own irq n) (sym (and-false (eqb (get_or s (at + 1) 0) itype && eqb (get_or s (at + 4) 0) bus)))
+  pub wired_other : eqb own irq ≡ false → false ≡ wired itype bus irq low e
+  wired_other n = rw (wired_by, n) (sym (and-false (eqb (interrupt_type e) itype && eqb (source_bus e) bus)))
 
-  pub wired_rest :
-      own ≡ irq → (eqb (get_or s (at + 1) 0) itype && eqb (get_or s (at + 4) 0) bus) ≡ wired itype bus irq low (take 8 (drop at s))
-  wired_rest e = rw (wired_by, eq-eqb own irq e) (sym (and-true (eqb (get_or s (at + 1) 0) itype && eqb (get_or s (at + 4) 0) bus)))
+  pub wired_rest : eqb own irq ≡ true → (eqb (interrupt_type e) itype && eqb (source_bus e) bus) ≡ wired itype bus irq low e
+  wired_rest t = rw (wired_by, t) (sym (and-true (eqb (interrupt_type e) itype && eqb (source_bus e) bus)))
 
 -- ---- named: all of the IDs, or, by the answer of the roll that they are on, one or none
 
@@ -58,6 +55,10 @@ module _ (ids : List ℕ) (to : ℕ) where
     unfolding named
     named_none f = rw (ne_eqb to 255 n, found f)
 
+-- The byte of an entry that is its destination.
+pub row_to : (e : Entry) → length e ≡ 8 → take 1 (drop 6 e) ≡ destination e ∷ []
+row_to e h = let at : 6 < length e = omega (arith, h) in rw (drop-cons e 6 0 at)
+
 -- An entry names no more IDs than there are.
 pub named_most : (ids : List ℕ) (to : ℕ) → length (named ids to) ≤ length ids
 unfolding named
@@ -69,82 +70,75 @@ named_most ids to =
 
 -- What the loop of the count keeps: with the rows left it comes to the count of all. A row has 256 pairs at most, 32 for
 -- each of its 8 bytes.
-abbrev pub Counts : List ℕ → (Entry → Bool) → List ℕ → ℕ → ℕ → Type 0
-Counts ids p s pairs at =
-    (pairs + count_in ids p (rows 8 (drop at s)) ≡ count_in ids p (rows 8 s)) × (at ≤ length s) × (pairs ≤ 32 * at)
+pub record Counts (ids : List ℕ) (p : Entry → Bool) (s : List ℕ) (pairs : ℕ) (rest : List ℕ) : Type 0 where
+  pub sum : pairs + count_in ids p (rows 8 rest) ≡ count_in ids p (rows 8 s)
+  pub few : pairs + 32 * length rest ≤ 32 * length s
 
-module _ (ids : List ℕ) (p : Entry → Bool) (s : List ℕ) (pairs at : ℕ) (inv : Counts ids p s pairs at) where
-  pub counts_done : length s - at < 8 → (pairs ≡ count_in ids p (rows 8 s)) × (pairs ≤ 32 * length s)
+module _ {ids : List ℕ} {p : Entry → Bool} {s : List ℕ} {pairs : ℕ} {rest : List ℕ} (inv : Counts ids p s pairs rest) where
+  pub counts_done : length rest < 8 → (pairs ≡ count_in ids p (rows 8 s)) × (pairs ≤ 32 * length s)
   unfolding count_in keep each total
   counts_done f =
-      let none : count_in ids p (rows 8 (drop at s)) ≡ 0 = rw (rows_done 8 s at inv.1 f) in
-      (omega (arith, none, inv.0), omega (arith, inv.1, inv.2))
+      let none : count_in ids p (rows 8 rest) ≡ 0 = rw (rows_short 8 rest f) in
+      (omega (arith, none, inv.sum), omega (arith, inv.few))
 
   -- The row there passes, or it does not. r is what the test told, n how many it names.
-  module _ (f : 8 ≤ length s - at) {r : Bool} (e : r ≡ p (take 8 (drop at s))) where
-    abbrev row : Entry
-    row = take 8 (drop at s)
-
-    abbrev rest : List Entry
-    rest = rows 8 (drop (at + 8) s)
-
-    next : rows 8 (drop at s) ≡ row ∷ rest
-    next = rows_next 8 s at (omega arith) inv.1 f
-
+  module _ (e left : List ℕ) (l : length e ≡ 8) (c : rest ≡ e ++ left) {r : Bool} (t : r ≡ p e) where
     pub counts_named :
-        (n : ℕ) → r ≡ true → length ids ≤ 256 → n ≡ length (named ids (get_or s (at + 6) 0)) → Counts ids p s (pairs + n) (at + 8)
+        (n : ℕ) → r ≡ true → length ids ≤ 256 → n ≡ length (named ids (destination e)) → Counts ids p s (pairs + n) left
     unfolding count_in each total
-    counts_named n t h g =
-        let more : count_in ids p (rows 8 (drop at s)) ≡ n + count_in ids p rest =
-        rw (next, keep_in p row rest (sym e ∙ t), row_byte 8 s at 6 (omega arith), g) in
-        (omega (arith, more, inv.0), omega (arith, f), omega (arith, g, named_most ids (get_or s (at + 6) 0), h, inv.2))
+    counts_named n y h g =
+        let more : count_in ids p (rows 8 rest) ≡ n + count_in ids p (rows 8 left) =
+        rw (c, rows_cut 8 e left (omega arith) l, keep_in p e (rows 8 left) (sym t ∙ y), g) in
+        record {
+          sum = omega (arith, more, inv.sum);
+          few = omega (arith, g, named_most ids (destination e), h, inv.few, ap length c, length-append e left, l);
+        }
 
-    pub counts_other : r ≡ false → Counts ids p s pairs (at + 8)
+    pub counts_other : r ≡ false → Counts ids p s pairs left
     unfolding count_in
-    counts_other t =
-        let same : count_in ids p (rows 8 (drop at s)) ≡ count_in ids p rest =
-        rw (next, keep_out p row rest (sym e ∙ t)) in
-        (omega (arith, same, inv.0), omega (arith, f), omega (arith, inv.2))
+    counts_other y =
+        let same : count_in ids p (rows 8 rest) ≡ count_in ids p (rows 8 left) =
+        rw (c, rows_cut 8 e left (omega arith) l, keep_out p e (rows 8 left) (sym t ∙ y)) in
+        record { sum = omega (arith, same, inv.sum); few = omega (arith, inv.few, ap length c, length-append e left, l) }
 
 -- ---- gather
 
 -- What the loop that gathers keeps: with the IDs of the rows left it comes to those of all, in number, on the roll and in
 -- the list.
-abbrev pub Gathers : List ℕ → List ℕ → List ℕ → ℕ → List ℕ → List ℕ → ℕ → ℕ → Type 0
-Gathers roll₀ ids₀ s n roll ids count at =
-    (at ≤ length s)
-    × (count + length (enabled_in n (drop at s)) ≡ length (enabled_in n s))
-    × (enrolled taken_bit roll (enabled_in n (drop at s)) ≡ enrolled taken_bit roll₀ (enabled_in n s))
-    × (sets ids count (enabled_in n (drop at s)) ≡ sets ids₀ 0 (enabled_in n s))
+pub record Gathers (roll₀ ids₀ s : List ℕ) (n : ℕ) (roll ids : List ℕ) (count : ℕ) (rest : List ℕ) : Type 0 where
+  pub number : count + length (enabled_in n rest) ≡ length (enabled_in n s)
+  pub marks : enrolled taken_bit roll (enabled_in n rest) ≡ enrolled taken_bit roll₀ (enabled_in n s)
+  pub list : sets ids count (enabled_in n rest) ≡ sets ids₀ 0 (enabled_in n s)
 
-module _ (roll₀ ids₀ s : List ℕ) (n : ℕ) (roll ids : List ℕ) (count at : ℕ) (inv : Gathers roll₀ ids₀ s n roll ids count at) where
+module _ {roll₀ ids₀ s : List ℕ} {n : ℕ} {roll ids : List ℕ} {count : ℕ} {rest : List ℕ} (inv : Gathers roll₀ ids₀ s n roll ids count rest) where
   pub gathers_done :
-      length s - at < n
+      length rest < n
       → (count ≡ length (enabled_in n s)) × ((roll ≡ enrolled taken_bit roll₀ (enabled_in n s)) × (ids ≡ sets ids₀ 0 (enabled_in n s)))
-  unfolding enrolled
+  unfolding enrolled enabled_in
   gathers_done f =
-      let none = enabled_done n s at inv.0 f in
-      (omega (arith, inv.1, ap length none), (rw none at inv.2, rw none at inv.3))
+      let none = ids_end n rest f in
+      (omega (arith, inv.number, ap length none), (rw none at inv.marks, rw none at inv.list))
 
-  module _ (z : 4 ≤ n) (f : n ≤ length s - at) where
-    module _ (p : get_or s (at + 3) 0 % 2 ≡ 1) where
+  module _ (e left : List ℕ) (z : 4 ≤ n) (h : length e ≡ n) (c : rest ≡ e ++ left) where
+    module _ (p : get_or e 3 0 % 2 ≡ 1) where
       -- One more ID is still to come.
       pub gathers_room : count + 1 ≤ length (enabled_in n s)
-      gathers_room = omega (arith, inv.1, ap length (enabled_on n s at inv.0 z f p))
+      unfolding enabled_in
+      gathers_room = omega (arith, inv.number, ap length (ids_on n rest e left (omega arith) h c p))
 
       pub gathers_on :
-          (more : List ℕ) → more ≡ with_marks 2 roll (get_or s (at + 1) 0)
-          → Gathers roll₀ ids₀ s n more (set ids count (get_or s (at + 1) 0)) (count + 1) (at + n)
-      unfolding enrolled
-      gathers_on more e =
-          let here = enabled_on n s at inv.0 z f p in (
-            omega (arith, f, inv.0),
-            omega (arith, inv.1, ap length here),
-            rw e (rw here at inv.2),
-            rw (add-one count) (rw here at inv.3),
-          )
+          (more : List ℕ) → more ≡ with_marks 2 roll (id_of e) → Gathers roll₀ ids₀ s n more (set ids count (id_of e)) (count + 1) left
+      unfolding enrolled enabled_in
+      gathers_on more q =
+          let here = ids_on n rest e left (omega arith) h c p in
+          record {
+            number = omega (arith, inv.number, ap length here);
+            marks = rw q (rw here at inv.marks);
+            list = rw (add-one count) (rw here at inv.list);
+          }
 
-    pub gathers_off : (get_or s (at + 3) 0 % 2 ≡ 1 → ⊥) → Gathers roll₀ ids₀ s n roll ids count (at + n)
+    pub gathers_off : (get_or e 3 0 % 2 ≡ 1 → ⊥) → Gathers roll₀ ids₀ s n roll ids count left
+    unfolding enabled_in
     gathers_off p =
-        let same = enabled_off n s at inv.0 z f p in
-        (omega (arith, f, inv.0), rw same at inv.1, rw same at inv.2, rw same at inv.3)
+        let same = ids_off n rest e left (omega arith) h c p in
+        record { number = rw same at inv.number; marks = rw same at inv.marks; list = rw same at inv.list }

@@ -1,22 +1,20 @@
 -- Laws of what is written in the room: the pairs of an entry, and those of all of them one behind the other. Assumes nothing.
-use Prim.Native.Nat.{ℕ, ◌+◌, ◌-◌, ◌≤◌, ◌<◌}
+use Prim.Native.Nat.{ℕ, ◌+◌, ◌≤◌, ◌<◌}
 use mathlib.Core.Path.{◌≡◌, refl, ap, sym, ◌∙◌}
 use mathlib.Core.Bool.{Bool, true, false}
-use mathlib.Core.List.{List, [], ◌++◌, append-nil}
+use mathlib.Core.List.{List, [], ◌++◌}
 use native.Mathlib.Omega.{arith}
 use native.Mathlib.Numerals.{add-one}
-use lib.ListN.{length, get_or, set, take, drop, drop_of_length-le, length-append}
+use lib.ListN.{length, get_or, set, drop, drop_of_length-le, length-append}
 use lib.Seq.{drop-cons, sets}
-use Rattle.mps.specs.Words.{keep, joined, part}
+use Rattle.mps.specs.Words.{keep, joined}
 use Rattle.mps.specs.Layout.{Entry, destination, input}
 use Rattle.mps.specs.Sections.{rows}
 use Rattle.mps.specs.Routes.{pair}
 use Rattle.laws.proofs.Lists.{keep_in, keep_out}
-use Rattle.laws.proofs.Rows.{rows_done, rows_next}
+use Rattle.laws.proofs.Rows.{rows_short, rows_cut}
 use Rattle.laws.proofs.Writes.{Writes, writes_next}
-use Rattle.roll.specs.Roll.{taken_bit, marked, OnRoll}
-use Rattle.routes.specs.Pairs.{pairs_for, pairs_in}
-use Rattle.routes.proofs.Counting.{named_all, named_one, named_none}
+use Rattle.routes.specs.Pairs.{named, pairs_for, pairs_in}
 
 -- ---- One pair, and a pair for each ID
 
@@ -51,60 +49,38 @@ module _ (e : Entry) (ids : List ℕ) (i : ℕ) where
     unfolding pair
     ids_put inv f = writes_next inv one others ids_next refl f
 
--- ---- The pairs of one entry: of all the IDs, or, by the answer of the roll that they are on, of one or none
-
-module _ (ids : List ℕ) (e : Entry) where
-  pub for_all : destination e ≡ 255 → pairs_for ids e ≡ joined (pair e) ids
-  unfolding pairs_for
-  for_all h = rw (named_all ids (destination e) h)
-
-  module _ (n : destination e ≡ 255 → ⊥) (h : destination e < 256) (roll : List ℕ) (on : OnRoll taken_bit roll ids) {r : Bool} (f : r ≡ marked 1 roll (destination e)) where
-    for_its : r ≡ true → pairs_for ids e ≡ pair e (destination e)
-    unfolding pairs_for joined
-    for_its g = rw (named_one ids (destination e) n h roll on f g) (append-nil (pair e (destination e)))
-
-    pub for_one : r ≡ true → (pairs_for ids e ≡ pair e (destination e)) × (length (pairs_for ids e) ≡ 2)
-    unfolding pair
-    for_one g = (for_its g, ap length (for_its g))
-
-    pub for_none : r ≡ false → pairs_for ids e ≡ []
-    unfolding pairs_for joined
-    for_none g = rw (named_none ids (destination e) n h roll on f g)
-
 -- ---- The pairs of the rows of a slice
 
-module _ (ids : List ℕ) (p : Entry → Bool) (s : List ℕ) where
-  abbrev pub pairs_from : ℕ → List ℕ
-  pairs_from at = pairs_in ids p (rows 8 (drop at s))
+-- Nothing whole is left, or one row and those behind it.
+module _ (ids : List ℕ) (p : Entry → Bool) (rest : List ℕ) where
+  abbrev pub pairs_left : List ℕ → List ℕ
+  pairs_left s = pairs_in ids p (rows 8 s)
 
-  -- From a place on: nothing whole is left, or one row and those behind it.
-  module _ (at : ℕ) (h : at ≤ length s) where
-    pub pairs_done : length s - at < 8 → pairs_from at ≡ []
-    unfolding pairs_in joined keep
-    pairs_done f = rw (rows_done 8 s at h f)
+  pub pairs_done : length rest < 8 → pairs_left rest ≡ []
+  unfolding pairs_in joined keep
+  pairs_done f = rw (rows_short 8 rest f)
 
-    -- The row passes, or it does not. r is what the test told.
-    module _ (f : 8 ≤ length s - at) {r : Bool} (e : r ≡ p (take 8 (drop at s))) where
+  -- The row passes, or it does not. r is what the test told, to the IDs that the row names.
+  module _ (e left : List ℕ) (l : length e ≡ 8) (c : rest ≡ e ++ left) {r : Bool} (t : r ≡ p e) where
+    pairs_other : r ≡ false → pairs_left rest ≡ pairs_left left
+    unfolding pairs_in
+    pairs_other g = rw (c, rows_cut 8 e left (omega arith) l, keep_out p e (rows 8 left) (sym t ∙ g))
+
+    pub pairs_pass : r ≡ false → {t₀ w out : List ℕ} {from place : ℕ} → Writes t₀ from w out place (pairs_left rest) → Writes t₀ from w out place (pairs_left left)
+    pairs_pass g inv = rw (← pairs_other g) inv
+
+    module _ (g : r ≡ true) (to : List ℕ) (n : to ≡ named ids (destination e)) where
       abbrev here : List ℕ
-      here = pairs_for ids (part at (at + 8) s)
+      here = joined (pair e) to
 
-      pairs_passed : r ≡ true → pairs_from at ≡ here ++ pairs_from (at + 8)
-      unfolding pairs_in joined
-      pairs_passed g =
-          let n : at + 8 - at ≡ 8 = omega arith in
-          rw (rows_next 8 s at (omega arith) h f, keep_in p (take 8 (drop at s)) (rows 8 (drop (at + 8) s)) (sym e ∙ g), n)
+      pairs_passed : pairs_left rest ≡ here ++ pairs_left left
+      unfolding pairs_in pairs_for joined
+      pairs_passed = rw (n, c, rows_cut 8 e left (omega arith) l, keep_in p e (rows 8 left) (sym t ∙ g))
 
-      pairs_other : r ≡ false → pairs_from at ≡ pairs_from (at + 8)
-      unfolding pairs_in
-      pairs_other g =
-          rw (rows_next 8 s at (omega arith) h f, keep_out p (take 8 (drop at s)) (rows 8 (drop (at + 8) s)) (sym e ∙ g))
+      pub pairs_room : length here ≤ length (pairs_left rest)
+      pairs_room = omega (arith, ap length pairs_passed, length-append here (pairs_left left))
 
-      pub pairs_room : r ≡ true → length here ≤ length (pairs_from at)
-      pairs_room g = omega (arith, ap length (pairs_passed g), length-append here (pairs_from (at + 8)))
-
-      module _ {t w out u : List ℕ} {from place q : ℕ} (inv : Writes t from w out place (pairs_from at)) where
-        pub pairs_put : r ≡ true → q ≡ place + length here → u ≡ sets out place here → Writes t from w u q (pairs_from (at + 8))
-        pairs_put g = writes_next inv here (pairs_from (at + 8)) (pairs_passed g)
-
-        pub pairs_pass : r ≡ false → q ≡ place → u ≡ out → Writes t from w u q (pairs_from (at + 8))
-        pairs_pass g k l = rw (k, l, ← pairs_other g) inv
+      pub pairs_put :
+          {t₀ w out : List ℕ} {from place : ℕ} → Writes t₀ from w out place (pairs_left rest)
+          → {u : List ℕ} {q : ℕ} → q ≡ place + length here → u ≡ sets out place here → Writes t₀ from w u q (pairs_left left)
+      pairs_put inv = writes_next inv here (pairs_left left) pairs_passed

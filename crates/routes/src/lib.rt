@@ -9,14 +9,13 @@
 // What is tested behind the table is each query's own. The IDs of the side's enabled APICs are gathered once, as a list for
 // those entries that name all and on a roll for those that name one: so the cost is that of the table and of the answer, and
 // not of their product. One pass over the interrupt entries writes the pairs; only where the room may be too small for them
-// does one before it count them. What a side answers goes up as a number, and the enum is made at the top: an enum that is
-// handed through a call is copied there.
+// does one before it count them.
 #![tactic(auto)]
 
-ghost use Rattle.std.specs.Prelude.{◌≡◌, false, ◌+◌, ◌*◌, ◌≤◌, length, take, drop, leb};
+ghost use Rattle.std.specs.Prelude.{◌≡◌, false, ◌+◌, ◌*◌, ◌≤◌, length, leb};
 ghost use Rattle.std.proofs.lemmas.List.Edits.{sets};
 ghost use Rattle.mps.specs.Words.{twice, joined};
-ghost use Rattle.mps.specs.Layout.{entry_size};
+ghost use Rattle.mps.specs.Layout.{entry_size, destination};
 ghost use Rattle.mps.specs.Rules.{io_side, local_side};
 ghost use Rattle.mps.specs.Sections.{rows};
 ghost use Rattle.mps.specs.Judge.{table_refusal};
@@ -26,150 +25,191 @@ ghost use Rattle.mps.specs.Slots.{slot, slot_routed, slot_routes_left};
 ghost use Rattle.roll.specs.Roll.{taken_bit, enrolled, OnRoll};
 ghost use Rattle.judge.specs.Placed.{Placed};
 ghost use Rattle.apics.specs.Enabled.{enabled_in};
-ghost use Rattle.routes.specs.Pairs.{side_of, wired, pairs_of, named, pairs_for, pairs_in, count_in, told, meant};
+ghost use Rattle.routes.specs.Pairs.{side_of, asked_by, pairs_of, named, pairs_in, count_in, paired};
 
-use mps::{Examined, Lent, Sections, layout};
+use mps::{Refusal, Sections, layout};
+
+// The side of a table that a query is about.
+#[derive(Clone, Copy)]
+enum Side {
+    Io,
+    Local,
+}
+
+// What is compared of an entry's source IRQ: the whole byte, or for a slot all but bit 7.
+#[derive(Clone, Copy)]
+enum Irq {
+    Whole(u8),
+    Slot(u8),
+}
+
+// What an interrupt entry is asked for.
+#[derive(Clone, Copy)]
+struct Wire {
+    itype: u8,
+    bus: u8,
+    irq: Irq,
+}
+
+impl Wire {
+    // Whether the entry is asked about. The IRQ first: by it alone most entries are known not to be.
+    #[tactic(auto, unfolding(crate::specs::Pairs::wired))]
+    fn asks(&self, e: &[u8]) -> bool
+        requires { length e.now ≡ entry_size }
+        ensures { result ≡ asked_by self.now e.now }
+    {
+        let source = e[layout::SOURCE_IRQ];
+        let same = match self.irq {
+            Irq::Whole(irq) => source == irq,
+            Irq::Slot(irq) => source % layout::BUS_SLOTS == irq,
+        };
+        same && (e[layout::INTERRUPT_TYPE] == self.itype) & (e[layout::SOURCE_BUS] == self.bus)
+    }
+}
+
+// The IDs of a side's enabled APICs: a list of them, for the entries that name all, and a roll that they are on, for those
+// that name one.
+#[derive(Clone, Copy)]
+struct Targets<'a> {
+    ids: &'a [u8],
+    roll: &'a [u8; 256],
+    ghost on_roll: { OnRoll taken_bit roll.now ids.now },
+    ghost few: { length ids.now ≤ 256 },
+}
+
+impl Targets<'_> {
+    // Those that an entry names.
+    fn named<'a>(&'a self, e: &'a [u8]) -> &'a [u8]
+        requires { length e.now ≡ entry_size }
+        ensures { result.now ≡ named self.now.ids.now (destination e.now) }
+    {
+        let to = e[layout::DESTINATION];
+        if to == layout::EVERYONE {
+            return self.ids;
+        }
+        if roll::has(self.roll, to, roll::TAKEN) {
+            return &e[layout::DESTINATION..layout::DESTINATION + 1];
+        }
+        &[]
+    }
+}
 
 // Interrupt type, bus and IRQ in; the pairs stand in the room from its first byte on.
-pub fn io(t: &[u8], itype: u8, bus: u8, irq: u8, out: &mut [u8]) -> Lent
+pub fn io(t: &[u8], itype: u8, bus: u8, irq: u8, out: &mut [u8]) -> Result<usize, Refusal>
     ensures value { result ≡ routed (question io_side itype bus irq) t.now out.old }
     ensures out_after { out.new ≡ routes_left (question io_side itype bus irq) t.now out.old }
 {
-    query(t, false, itype, bus, irq, out)
+    query(t, Side::Io, itype, bus, irq, out)
 }
 
 // The same over local interrupts and processors.
-pub fn local(t: &[u8], itype: u8, bus: u8, irq: u8, out: &mut [u8]) -> Lent
+pub fn local(t: &[u8], itype: u8, bus: u8, irq: u8, out: &mut [u8]) -> Result<usize, Refusal>
     ensures value { result ≡ routed (question local_side itype bus irq) t.now out.old }
     ensures out_after { out.new ≡ routes_left (question local_side itype bus irq) t.now out.old }
 {
-    query(t, true, itype, bus, irq, out)
+    query(t, Side::Local, itype, bus, irq, out)
 }
 
 // Bus, device and pin of a PCI slot in; the pairs stand in the room as those of `io` do.
-pub fn slot(t: &[u8], bus: u8, device: u8, pin: u8, out: &mut [u8]) -> Lent
+pub fn slot(t: &[u8], bus: u8, device: u8, pin: u8, out: &mut [u8]) -> Result<usize, Refusal>
     ensures value { result ≡ slot_routed (slot bus device pin) t.now out.old }
     ensures out_after { out.new ≡ slot_routes_left (slot bus device pin) t.now out.old }
 {
-    let found = judge::examine(t);
-    match found {
-        Examined::Refused(n) => Lent::Refused(n),
-        Examined::Accepted(p) => slot_behind_table(t, p, bus, device, pin, out),
-    }
+    let p = judge::examine(t)?;
+    slot_behind_table(t, p, bus, device, pin, out)
 }
 
-fn query(t: &[u8], local: bool, itype: u8, bus: u8, irq: u8, out: &mut [u8]) -> Lent
-    ensures value { result ≡ routed (question (side_of local) itype bus irq) t.now out.old }
-    ensures out_after { out.new ≡ routes_left (question (side_of local) itype bus irq) t.now out.old }
+fn query(
+    t: &[u8],
+    side: Side,
+    itype: u8,
+    bus: u8,
+    irq: u8,
+    out: &mut [u8],
+) -> Result<usize, Refusal>
+    ensures value { result ≡ routed (question (side_of side) itype bus irq) t.now out.old }
+    ensures out_after { out.new ≡ routes_left (question (side_of side) itype bus irq) t.now out.old }
 {
-    let found = judge::examine(t);
-    match found {
-        Examined::Refused(n) => Lent::Refused(n),
-        Examined::Accepted(p) => behind_table(t, p, local, itype, bus, irq, out),
-    }
+    let p = judge::examine(t)?;
+    behind_table(t, p, side, itype, bus, irq, out)
 }
 
 // 24 and on, with the places of the table.
 fn behind_table(
     t: &[u8],
     p: Sections,
-    local: bool,
+    side: Side,
     itype: u8,
     bus: u8,
     irq: u8,
     out: &mut [u8],
-) -> Lent
+) -> Result<usize, Refusal>
     requires { (table_refusal t.now ≡ 0) × (Placed t.now p) }
-    ensures value { result ≡ routed (question (side_of local) itype bus irq) t.now out.old }
-    ensures out_after { out.new ≡ routes_left (question (side_of local) itype bus irq) t.now out.old }
+    ensures value { result ≡ routed (question (side_of side) itype bus irq) t.now out.old }
+    ensures out_after { out.new ≡ routes_left (question (side_of side) itype bus irq) t.now out.old }
 {
-    let buses = p.buses;
-    let ioapics = p.ioapics;
     if layout::INTERRUPT_TYPE_MOST < itype {
-        return Lent::Refused(24);
+        return Err(Refusal::Query);
     }
-    if !buses::is_listed(&t[buses..ioapics], bus) {
-        return Lent::Refused(24);
+    if !buses::is_listed(&t[p.buses..p.ioapics], bus) {
+        return Err(Refusal::Query);
     }
-    answered(of_side(t, p, local, itype, bus, irq, false, out))
+    let irq = Irq::Whole(irq);
+    of_side(t, p, side, &Wire { itype, bus, irq }, out)
 }
 
 // 24, 25 and on. A PCI bus is a listed one, so that only another is looked for among all. The IRQ of a slot is its device and
 // pin, packed, and bit 7 of an entry's is not compared.
-fn slot_behind_table(t: &[u8], p: Sections, bus: u8, device: u8, pin: u8, out: &mut [u8]) -> Lent
+fn slot_behind_table(
+    t: &[u8],
+    p: Sections,
+    bus: u8,
+    device: u8,
+    pin: u8,
+    out: &mut [u8],
+) -> Result<usize, Refusal>
     requires { (table_refusal t.now ≡ 0) × (Placed t.now p) }
     ensures value { result ≡ slot_routed (slot bus device pin) t.now out.old }
     ensures out_after { out.new ≡ slot_routes_left (slot bus device pin) t.now out.old }
 {
-    let buses = p.buses;
-    let ioapics = p.ioapics;
-    let listed = &t[buses..ioapics];
+    let listed = &t[p.buses..p.ioapics];
     if !buses::is_pci(listed, bus) {
         if buses::is_listed(listed, bus) {
-            return Lent::Refused(25);
+            return Err(Refusal::Slot);
         }
-        return Lent::Refused(24);
+        return Err(Refusal::Query);
     }
     if (layout::DEVICES <= device) | (layout::PINS <= pin) {
-        return Lent::Refused(25);
+        return Err(Refusal::Slot);
     }
     let irq = device * layout::PINS + pin;
-    answered(of_side(t, p, false, layout::VECTORED, bus, irq, true, out))
+    let irq = Irq::Slot(irq);
+    let itype = layout::VECTORED;
+    of_side(t, p, Side::Io, &Wire { itype, bus, irq }, out)
 }
 
-// What a side has told, as the answer.
-fn answered(told: usize) -> Lent
-    ensures { result ≡ meant told }
-{
-    if told == 0 {
-        return Lent::Refused(19);
-    }
-    Lent::Count(told - 1)
-}
-
-// Apart from the tests of 24 and 25, since what a side answers asks nothing of them. 0 where the pairs do not fit in the
-// room, else one more than there are.
-fn of_side(
-    t: &[u8],
-    p: Sections,
-    local: bool,
-    itype: u8,
-    bus: u8,
-    irq: u8,
-    low: bool,
-    out: &mut [u8],
-) -> usize
+// Apart from the tests of 24 and 25, since what a side answers asks nothing of them.
+fn of_side(t: &[u8], p: Sections, side: Side, wire: &Wire, out: &mut [u8]) -> Result<usize, Refusal>
     requires { (table_refusal t.now ≡ 0) × (Placed t.now p) }
-    ensures value { result ≡ told (pairs_of (side_of local) (wired itype bus irq low) t.now) out.old }
-    ensures out_after { out.new ≡ fit_left (pairs_of (side_of local) (wired itype bus irq low) t.now) out.old }
+    ensures value { result ≡ paired (pairs_of (side_of side) (asked_by wire.now) t.now) out.old }
+    ensures out_after { out.new ≡ fit_left (pairs_of (side_of side) (asked_by wire.now) t.now) out.old }
 {
-    let buses = p.buses;
-    let ioapics = p.ioapics;
-    let interrupts = p.interrupts;
-    let locals = p.locals;
-    let end = p.mappings;
-    if local {
-        return answer(
-            &t[layout::HEADER_SIZE..buses],
-            layout::PROCESSOR_SIZE,
-            &t[locals..end],
-            itype,
-            bus,
-            irq,
-            low,
+    match side {
+        Side::Io => answer(
+            &t[p.ioapics..p.interrupts],
+            layout::ENTRY_SIZE,
+            &t[p.interrupts..p.locals],
+            wire,
             out,
-        );
+        ),
+        Side::Local => answer(
+            &t[layout::HEADER_SIZE..p.buses],
+            layout::PROCESSOR_SIZE,
+            &t[p.locals..p.mappings],
+            wire,
+            out,
+        ),
     }
-    answer(
-        &t[ioapics..interrupts],
-        layout::ENTRY_SIZE,
-        &t[interrupts..locals],
-        itype,
-        bus,
-        irq,
-        low,
-        out,
-    )
 }
 
 // The same of one side's parts: its APICs, entries of `size` bytes, and its interrupt entries. 256 places hold any IDs of
@@ -178,24 +218,24 @@ fn answer(
     targets: &[u8],
     size: usize,
     entries: &[u8],
-    itype: u8,
-    bus: u8,
-    irq: u8,
-    low: bool,
+    wire: &Wire,
     out: &mut [u8],
-) -> usize
+) -> Result<usize, Refusal>
     requires { (4 ≤ size) × (twice (enabled_in size targets.now) ≡ false) × (length entries.now ≤ 65535) }
-    ensures value { result ≡ told (pairs_in (enabled_in size targets.now) (wired itype bus irq low) (rows entry_size entries.now)) out.old }
-    ensures out_after { out.new ≡ fit_left (pairs_in (enabled_in size targets.now) (wired itype bus irq low) (rows entry_size entries.now)) out.old }
+    ensures value { result ≡ paired (pairs_in (enabled_in size targets.now) (asked_by wire.now) (rows entry_size entries.now)) out.old }
+    ensures out_after { out.new ≡ fit_left (pairs_in (enabled_in size targets.now) (asked_by wire.now) (rows entry_size entries.now)) out.old }
 {
     let mut roll = [0; 256];
     let mut list = [0; 256];
     let n = gather(&mut roll, &mut list, targets, size);
-    let ids = &list[0..n];
-    if !has_room(out.len(), entries, itype, bus, irq, low, ids, &roll) {
-        return 0;
+    let targets = Targets {
+        ids: &list[0..n],
+        roll: &roll,
+    };
+    if !has_room(out.len(), entries, wire, targets) {
+        return Err(Refusal::RoomTooSmall);
     }
-    write(out, entries, itype, bus, irq, low, ids, &roll) / layout::PAIR_SIZE + 1
+    Ok(write(out, entries, wire, targets) / layout::PAIR_SIZE)
 }
 
 // The enabled APICs, of entries of `size` bytes each: they are put on the roll, and their IDs stand in `ids` from its first
@@ -207,87 +247,42 @@ fn gather(roll: &mut [u8; 256], ids: &mut [u8; 256], s: &[u8], size: usize) -> u
     ensures ids_after { ids.new ≡ sets ids.old 0 (enabled_in size s.now) }
 {
     let mut count = 0;
-    let mut at = 0;
-    while size <= s.len() - at {
-        if s[at + layout::APIC_FLAGS] % 2 == 1 {
-            let id = s[at + layout::ENTRY_ID];
+    for e in s.chunks_exact(size) {
+        if e[layout::APIC_FLAGS] % 2 == 1 {
+            let id = e[layout::ENTRY_ID];
             roll::put(roll, id, roll::TAKEN_MARK);
             ids[count] = id;
             count += 1;
         }
-        at += size;
     }
     count
 }
 
-// Whether the entry at a place is asked about. The IRQ first: by it alone most entries are known not to be. `low`: without
-// its bit 7.
-fn asked(s: &[u8], at: usize, itype: u8, bus: u8, irq: u8, low: bool) -> bool
-    requires { at + entry_size ≤ length s.now }
-    ensures { result ≡ wired itype bus irq low (take entry_size (drop at s.now)) }
-{
-    let source = s[at + layout::SOURCE_IRQ];
-    let own = if low {
-        source % layout::BUS_SLOTS
-    } else {
-        source
-    };
-    if own != irq {
-        return false;
-    }
-    (s[at + layout::INTERRUPT_TYPE] == itype) & (s[at + layout::SOURCE_BUS] == bus)
-}
-
-// How many APICs a destination names.
-fn names(ids: &[u8], roll: &[u8; 256], to: u8) -> usize
-    requires { OnRoll taken_bit roll.now ids.now }
-    ensures { result ≡ length (named ids.now to) }
-{
-    if to == layout::EVERYONE {
-        return ids.len();
-    }
-    if roll::has(roll, to, roll::TAKEN) {
-        return 1;
-    }
-    0
-}
-
 // How many pairs there are.
-fn count(s: &[u8], itype: u8, bus: u8, irq: u8, low: bool, ids: &[u8], roll: &[u8; 256]) -> usize
-    requires { (OnRoll taken_bit roll.now ids.now) × (length ids.now ≤ 256) × (length s.now ≤ 65535) }
-    ensures value { result ≡ count_in ids.now (wired itype bus irq low) (rows entry_size s.now) }
+fn count(s: &[u8], wire: &Wire, targets: Targets) -> usize
+    requires { length s.now ≤ 65535 }
+    ensures value { result ≡ count_in targets.entry.ids.now (asked_by wire.now) (rows entry_size s.now) }
     ensures upper_bound { result ≤ 32 * length s.now }
 {
     let mut pairs = 0;
-    let mut at = 0;
-    while at + layout::ENTRY_SIZE <= s.len() {
-        if asked(s, at, itype, bus, irq, low) {
-            pairs += names(ids, roll, s[at + layout::DESTINATION]);
+    for e in s.chunks_exact(layout::ENTRY_SIZE) {
+        if wire.asks(e) {
+            pairs += targets.named(e).len();
         }
-        at += layout::ENTRY_SIZE;
     }
     pairs
 }
 
 // Whether the pairs fit in a room of so many bytes. Where it has a place for every ID in every entry nothing is counted.
-fn has_room(
-    room: usize,
-    s: &[u8],
-    itype: u8,
-    bus: u8,
-    irq: u8,
-    low: bool,
-    ids: &[u8],
-    roll: &[u8; 256],
-) -> bool
-    requires { (OnRoll taken_bit roll.now ids.now) × (length ids.now ≤ 256) × (length s.now ≤ 65535) }
-    ensures { result ≡ leb (length (pairs_in ids.now (wired itype bus irq low) (rows entry_size s.now))) room }
+fn has_room(room: usize, s: &[u8], wire: &Wire, targets: Targets) -> bool
+    requires { length s.now ≤ 65535 }
+    ensures { result ≡ leb (length (pairs_in targets.entry.ids.now (asked_by wire.now) (rows entry_size s.now))) room }
 {
-    let most = s.len() / layout::ENTRY_SIZE * ids.len();
+    let most = s.len() / layout::ENTRY_SIZE * targets.ids.len();
     if most * layout::PAIR_SIZE <= room {
         return true;
     }
-    count(s, itype, bus, irq, low, ids, roll) * layout::PAIR_SIZE <= room
+    count(s, wire, targets) * layout::PAIR_SIZE <= room
 }
 
 // One pair, of an interrupt entry and an ID.
@@ -306,57 +301,24 @@ fn put_all(out: &mut [u8], at: usize, entry: &[u8], ids: &[u8]) -> usize
     ensures out_after { out.new ≡ sets out.old at (joined (pair entry.now) ids.now) }
 {
     let mut place = at;
-    let mut i = 0;
-    while i < ids.len() {
-        put_pair(out, place, entry, ids[i]);
+    for id in ids {
+        put_pair(out, place, entry, *id);
         place += layout::PAIR_SIZE;
-        i += 1;
     }
     place
 }
 
-// The pairs of one entry; answers the place behind them.
-fn put_named(out: &mut [u8], at: usize, entry: &[u8], ids: &[u8], roll: &[u8; 256]) -> usize
-    requires on_roll { (OnRoll taken_bit roll.now ids.now) × (length entry.now ≡ entry_size) }
-    requires in_bounds { at + length (pairs_for ids.now entry.now) ≤ length out.old }
-    ensures value { result ≡ at + length (pairs_for ids.now entry.now) }
-    ensures out_after { out.new ≡ sets out.old at (pairs_for ids.now entry.now) }
-{
-    let to = entry[layout::DESTINATION];
-    if to == layout::EVERYONE {
-        return put_all(out, at, entry, ids);
-    }
-    if roll::has(roll, to, roll::TAKEN) {
-        put_pair(out, at, entry, to);
-        return at + layout::PAIR_SIZE;
-    }
-    at
-}
-
 // All pairs, from the room's first byte on; answers the place behind them.
-// The end is compared with the place behind an entry, which is the next one's: what is left would be taken off in each turn.
-fn write(
-    out: &mut [u8],
-    s: &[u8],
-    itype: u8,
-    bus: u8,
-    irq: u8,
-    low: bool,
-    ids: &[u8],
-    roll: &[u8; 256],
-) -> usize
-    requires on_roll { OnRoll taken_bit roll.now ids.now }
-    requires s_in_bounds { length (pairs_in ids.now (wired itype bus irq low) (rows entry_size s.now)) ≤ length out.old }
-    ensures value { result ≡ length (pairs_in ids.now (wired itype bus irq low) (rows entry_size s.now)) }
-    ensures out_after { out.new ≡ sets out.old 0 (pairs_in ids.now (wired itype bus irq low) (rows entry_size s.now)) }
+fn write(out: &mut [u8], s: &[u8], wire: &Wire, targets: Targets) -> usize
+    requires { length (pairs_in targets.ids.now (asked_by wire.now) (rows entry_size s.now)) ≤ length out.old }
+    ensures value { result ≡ length (pairs_in targets.entry.ids.now (asked_by wire.now) (rows entry_size s.now)) }
+    ensures out_after { out.new ≡ sets out.old 0 (pairs_in targets.entry.ids.now (asked_by wire.now) (rows entry_size s.now)) }
 {
     let mut place = 0;
-    let mut at = 0;
-    while at + layout::ENTRY_SIZE <= s.len() {
-        if asked(s, at, itype, bus, irq, low) {
-            place = put_named(out, place, &s[at..at + layout::ENTRY_SIZE], ids, roll);
+    for e in s.chunks_exact(layout::ENTRY_SIZE) {
+        if wire.asks(e) {
+            place = put_all(out, place, e, targets.named(e));
         }
-        at += layout::ENTRY_SIZE;
     }
     place
 }

@@ -1,27 +1,28 @@
 -- The ways out of the listing: what the code has found there, and the answer. Assumes nothing.
 use Prim.Native.Nat.{ℕ, ◌*◌, ◌/◌, ◌≤◌}
-use mathlib.Core.Path.{◌≡◌, sym, ap, ◌∙◌}
+use mathlib.Core.Path.{◌≡◌, refl, sym, ap, ◌∙◌}
 use mathlib.Core.Bool.{Bool, true, false, ◌||◌, or-false}
 use mathlib.Core.List.{List}
 use native.Mathlib.Omega.{arith}
 use lib.Dec.{leb}
+use Rattle.std.specs.Prelude.{Result, Ok, Err}
 use lib.ListN.{length}
 use lib.Seq.{sets}
 use borrow.Author.Tests.{leb-true, leb-false}
 use Rattle.mps.specs.Words.{among, keep, joined, below}
+use Rattle.mps.specs.Refusals.{refusal}
 use Rattle.mps.specs.Layout.{Entry, source_bus, source_irq}
-use Rattle.mps.specs.Refusals.{room_number}
 use Rattle.mps.specs.Judge.{table_rules, table_refusal, examined}
 use Rattle.mps.specs.Rooms.{too_small, fitted, fit_left}
 use Rattle.mps.specs.Slots.{slot_size, slots_of, slots_refusal, slots_listed, slots_left}
-use Rattle.mps.specs.declared.Examined.{Examined}
-use Rattle.mps.specs.declared.Examined.TheVariants.{Refused as Examined-as-Refused}
-use Rattle.mps.specs.declared.Lent.{Lent}
-use Rattle.mps.specs.declared.Lent.TheVariants.{Count, Refused}
+use Rattle.mps.specs.declared.Sections.{Sections}
+use Rattle.mps.specs.declared.refusals.Refusal.{Refusal}
+use Rattle.mps.specs.declared.refusals.Refusal.TheVariants.{RoomTooSmall}
+use Rattle.laws.proofs.Answers.{answered_err}
 use Rattle.laws.proofs.Lists.{length_each, keep_most}
 use Rattle.laws.proofs.Rising.{keep_rising}
-use Rattle.laws.proofs.Lent.{lent_early, left_kept, lent_refused, fit_put, fit_short, fit_late}
-use Rattle.judge.proofs.Laws.{refused_number, refused_some, table_some}
+use Rattle.laws.proofs.Lent.{lent_early, left_kept, fit_put, fit_short, fit_late}
+use Rattle.judge.proofs.Laws.{refused_table, table_some}
 use Rattle.roll.specs.Roll.{bus_bit, marked}
 use Rattle.sets.specs.Sets.{holds, members}
 use Rattle.sets.proofs.Laws.{members_all}
@@ -30,21 +31,22 @@ use Rattle.slots.proofs.Sets.{among_few}
 use Rattle.slots.proofs.Writing.{length_slots}
 
 -- What answers it, and what is left in the room.
-abbrev pub Answers : List ℕ → List ℕ → Lent → List ℕ → Type 0
+abbrev pub Answers : List ℕ → List ℕ → Result ℕ Refusal → List ℕ → Type 0
 Answers t room r u = (r ≡ slots_listed t room) × (u ≡ slots_left t room)
 
 -- A refused table.
-pub examined_refused : (t room : List ℕ) {found : Examined} {n : ℕ} → found ≡ examined t → found ≡ Examined-as-Refused n → Answers t room (Refused n) room
+pub examined_refused : (t room : List ℕ) {found : Result Sections Refusal} {r : Refusal} → found ≡ examined t → found ≡ Err r → Answers t room (Err r) room
 unfolding slots_listed slots_left slots_refusal table_refusal
-examined_refused t room {found} {n} e k =
-    let z = refused_some t e k in
-    let early = lent_early (table_rules t) (table_some t) (too_small (length (slots_of t)) room) (sym (refused_number t e k)) z in
-    (rw early (lent_refused n _ z), rw early (sym (left_kept n _ room z)))
+examined_refused t room e k =
+    let g = refused_table t e k in
+    let n = refusal (table_rules t) in
+    let early = lent_early (table_rules t) (table_some t) {n = n} (too_small (length (slots_of t)) room) refl g.0 in
+    (rw early (answered_err n _ g.0 g.1), rw early (sym (left_kept n _ room g.0)))
 
 -- An accepted one's answer goes into the room as any does.
 pub listed_late :
     (t room : List ℕ) {answer : List ℕ} → table_refusal t ≡ 0 → slots_of t ≡ answer
-    → {r : Lent} {u : List ℕ} → (r ≡ fitted answer (length answer / slot_size) room) × (u ≡ fit_left answer room) → Answers t room r u
+    → {r : Result ℕ Refusal} {u : List ℕ} → (r ≡ fitted answer (length answer / slot_size) room) × (u ≡ fit_left answer room) → Answers t room r u
 unfolding slots_listed slots_left slots_refusal table_refusal fitted fit_left
 listed_late t room a is e =
     let k = fit_late (table_rules t) (table_some t) (slots_of t) room a in
@@ -82,7 +84,7 @@ module _ (roll : List ℕ) (es : List Entry) (empty words : List ℕ) (size : le
   total = ap length is ∙ length_slots (members words)
 
   module _ (room : List ℕ) {r : Bool} (told : r ≡ leb (length (members words)) (length room / 3)) where
-    pub set_short : r ≡ false → (Refused room_number ≡ fitted answer (length answer / slot_size) room) × (room ≡ fit_left answer room)
+    pub set_short : r ≡ false → (Err RoomTooSmall ≡ fitted answer (length answer / slot_size) room) × (room ≡ fit_left answer room)
     set_short f = fit_short answer (length answer / slot_size) room (omega (arith, total, leb-false (length (members words)) (length room / 3) (sym told ∙ f)))
 
     pub set_fits : r ≡ true → length (members words) * 3 ≤ length room
@@ -90,5 +92,5 @@ module _ (roll : List ℕ) (es : List Entry) (empty words : List ℕ) (size : le
 
     pub set_put :
         r ≡ true → {q : ℕ} {u : List ℕ} → q ≡ length (joined slot_bytes (members words)) → u ≡ sets room 0 (joined slot_bytes (members words))
-        → (Count (q / slot_size) ≡ fitted answer (length answer / slot_size) room) × (u ≡ fit_left answer room)
-    set_put t e g = fit_put answer (length answer / slot_size) room (omega (arith, e, ap length is)) (omega (arith, total, set_fits t)) (rw is g)
+        → (Ok (q / slot_size) ≡ fitted answer (length answer / slot_size) room) × (u ≡ fit_left answer room)
+    set_put t {q} e g = fit_put answer (length answer / slot_size) room (ap (λ k. k / slot_size) (e ∙ sym (ap length is))) (omega (arith, total, set_fits t)) (rw is g)

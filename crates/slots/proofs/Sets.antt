@@ -1,23 +1,23 @@
 -- Laws of the sets of slots: how many there are, and what the passes over the entries keep. Assumes nothing.
-use Prim.Native.Nat.{ℕ, ◌+◌, ◌-◌, ◌/◌, ◌≤◌, ◌<◌}
+use Prim.Native.Nat.{ℕ, ◌/◌, ◌≤◌, ◌<◌, max}
 use mathlib.Core.Path.{◌≡◌, refl, sym, ap, ◌∙◌}
 use mathlib.Core.Bool.{Bool, true, false, ◌||◌, or_assoc}
-use mathlib.Core.List.{List, [], ◌∷◌}
+use mathlib.Core.List.{List, [], ◌∷◌, ◌++◌}
 use native.Mathlib.Omega.{arith}
 use lib.Dec.{eqb, ltb}
-use lib.ListN.{length, get_or, take, drop}
+use lib.ListN.{length}
 use borrow.Author.Tests.{ne_eqb, ltb-true, ltb-false}
 use Rattle.mps.specs.Words.{among, keep, each, below}
-use Rattle.mps.specs.Layout.{Entry, id_of, source_bus}
+use Rattle.mps.specs.Layout.{Entry, id_of, source_bus, source_irq}
 use Rattle.mps.specs.Sections.{rows}
 use Rattle.laws.proofs.Tests.{whether, or_swap}
 use Rattle.laws.proofs.Lists.{keep_in, keep_out, keep_nothing}
 use Rattle.laws.proofs.Rising.{keep_rising, keep_more, keep_again}
-use Rattle.laws.proofs.Rows.{rows_done, rows_next, row_byte}
+use Rattle.laws.proofs.Rows.{rows_short, rows_cut}
 use Rattle.roll.specs.Roll.{bus_bit, marked}
 use Rattle.sets.specs.Sets.{holds, with_number}
 use Rattle.sets.proofs.Laws.{length_put, holds_put}
-use Rattle.slots.specs.Sets.{slot_number, named_on, Held}
+use Rattle.slots.specs.Sets.{slots_most, slot_number, named_on, Held}
 
 -- ---- How many there are
 
@@ -38,72 +38,58 @@ among_few (x ∷ ns) k =
 
 -- ---- The pass over the bus entries
 
--- What it keeps: from the number on that it has, only the rows left have an ID.
-abbrev pub Tops : List ℕ → ℕ → ℕ → Type 0
-Tops s top at =
-    ((x : ℕ) → top ≤ x → among x (each id_of (rows 8 s)) ≡ among x (each id_of (rows 8 (drop at s))))
-    × (at ≤ length s) × (top ≤ 256) × (0 < top)
+-- What it keeps: above the number that it has, only the rows left have an ID.
+abbrev pub Tops : List ℕ → List ℕ → ℕ → Type 0
+Tops s rest top = (x : ℕ) → top < x → among x (each id_of (rows 8 s)) ≡ among x (each id_of (rows 8 rest))
 
-module _ (s : List ℕ) (top at : ℕ) (inv : Tops s top at) where
-  pub tops_done : length s - at < 8 → (0 < top) × (top ≤ 256) × ((x : ℕ) → top ≤ x → among x (each id_of (rows 8 s)) ≡ false)
+module _ (s rest : List ℕ) (top : ℕ) (inv : Tops s rest top) where
+  pub tops_done : length rest < 8 → (x : ℕ) → top < x → among x (each id_of (rows 8 s)) ≡ false
   unfolding among each
-  tops_done f = (inv.3, inv.2, λ x h. inv.0 x h ∙ rw (rows_done 8 s at inv.1 f))
+  tops_done f x h = inv x h ∙ rw (rows_short 8 rest f)
 
-  pub tops_next : 8 ≤ length s - at → {u : ℕ} → top ≤ u → u ≤ 256 → get_or s (at + 1) 0 < u → Tops s u (at + 8)
+  pub tops_next : (e left : List ℕ) → length e ≡ 8 → rest ≡ e ++ left → {u : ℕ} → u ≡ max top (id_of e) → Tops s left u
   unfolding among each
-  tops_next f a b c = (
-    λ x h. inv.0 x (omega (arith, a, h))
-        ∙ rw (rows_next 8 s at (omega arith) inv.1 f, row_byte 8 s at 1 (omega arith), ne_eqb x (get_or s (at + 1) 0) (λ e. omega (arith, e, c, h))),
-    omega (arith, f),
-    b,
-    omega (arith, a, inv.3),
-  )
+  tops_next e left l c {u} m x h =
+      inv x (omega (arith, h, m)) ∙ rw (c, rows_cut 8 e left (omega arith) l, ne_eqb x (id_of e) (λ q. omega (arith, q, h, m)))
 
 -- ---- The pass over the interrupts
 
 -- What it keeps: what the rows left name and what is in the set are together what there is to be.
-abbrev pub Notes : List ℕ → List ℕ → List ℕ → List ℕ → ℕ → Type 0
-Notes words₀ roll s words at =
-    ((n : ℕ) → (among n (named_on roll (rows 8 (drop at s))) || holds words n) ≡ (among n (named_on roll (rows 8 s)) || holds words₀ n))
-    × (at ≤ length s) × (length words ≡ length words₀)
+abbrev pub Notes : List ℕ → List ℕ → List ℕ → List ℕ → List ℕ → Type 0
+Notes words₀ roll s words rest =
+    ((n : ℕ) → (among n (named_on roll (rows 8 rest)) || holds words n) ≡ (among n (named_on roll (rows 8 s)) || holds words₀ n))
+    × (length words ≡ length words₀)
 
-module _ (words₀ roll s words : List ℕ) (at : ℕ) (inv : Notes words₀ roll s words at) where
-  pub notes_done : length s - at < 8 → (n : ℕ) → holds words n ≡ (among n (named_on roll (rows 8 s)) || holds words₀ n)
+module _ (words₀ roll s words rest : List ℕ) (inv : Notes words₀ roll s words rest) where
+  pub notes_done : length rest < 8 → (n : ℕ) → holds words n ≡ (among n (named_on roll (rows 8 s)) || holds words₀ n)
   unfolding named_on keep each among
-  notes_done f n = rw (rows_done 8 s at inv.1 f) at (inv.0 n)
+  notes_done f n = rw (rows_short 8 rest f) at (inv.0 n)
 
   -- The row there names a slot on a bus of the roll, or it does not. r is what the roll told.
-  module _ (f : 8 ≤ length s - at) {r : Bool} (e : r ≡ marked 3 roll (get_or s (at + 4) 0)) where
-    abbrev row : Entry
-    row = take 8 (drop at s)
+  module _ (e left : List ℕ) (l : length e ≡ 8) (c : rest ≡ e ++ left) {r : Bool} (told : r ≡ marked 3 roll (source_bus e)) where
+    on_it : Entry → Bool
+    on_it x = marked bus_bit roll (source_bus x)
 
-    abbrev rest : List Entry
-    rest = rows 8 (drop (at + 8) s)
-
-    on : marked bus_bit roll (source_bus row) ≡ r
-    on = rw (row_byte 8 s at 4 (omega arith)) (sym e)
-
-    pub notes_inside : {n : ℕ} → r ≡ true → get_or s (at + 4) 0 < 256 → Held roll (length words₀) → n ≡ slot_number (get_or s (at + 4) 0) (get_or s (at + 5) 0) → n / 64 < length words
+    pub notes_inside : {n : ℕ} → r ≡ true → Held roll (length words₀) → n ≡ slot_number (source_bus e) (source_irq e) → n < slots_most → n / 64 < length words
     unfolding slot_number
-    notes_inside {n} t b held g = omega (arith, held (get_or s (at + 4) 0) b (sym e ∙ t), g, inv.2)
+    notes_inside {n} t held g b = omega (arith, held (source_bus e) (omega (arith, g, b)) (sym told ∙ t), g, inv.1)
 
     pub notes_in :
-        {n : ℕ} {u : List ℕ} → r ≡ true → n ≡ slot_number (get_or s (at + 4) 0) (get_or s (at + 5) 0) → n / 64 < length words
-        → u ≡ with_number words n → Notes words₀ roll s u (at + 8)
-    unfolding named_on each among
+        {n : ℕ} {u : List ℕ} → r ≡ true → n ≡ slot_number (source_bus e) (source_irq e) → n / 64 < length words
+        → u ≡ with_number words n → Notes words₀ roll s u left
+    unfolding named_on each among on_it
     notes_in {n} t g h v =
-        let here : named_on roll (rows 8 (drop at s)) ≡ n ∷ named_on roll rest =
-        rw (rows_next 8 s at (omega arith) inv.1 f, keep_in (λ (x : Entry). marked bus_bit roll (source_bus x)) row rest (on ∙ t), row_byte 8 s at 4 (omega arith), row_byte 8 s at 5 (omega arith), g) in (
+        let here : named_on roll (rows 8 rest) ≡ n ∷ named_on roll (rows 8 left) =
+        rw (c, rows_cut 8 e left (omega arith) l, keep_in on_it e (rows 8 left) (sym told ∙ t), g) in (
           λ m. rw (v, holds_put words n m (λ e. omega (arith, h)))
-              (or_swap (among m (named_on roll rest)) (eqb m n) (holds words m)
-              ∙ sym (or_assoc (eqb m n) (among m (named_on roll rest)) (holds words m)) ∙ rw here at (inv.0 m)),
-          omega (arith, f),
-          rw v (length_put words n ∙ inv.2),
+              (or_swap (among m (named_on roll (rows 8 left))) (eqb m n) (holds words m)
+              ∙ sym (or_assoc (eqb m n) (among m (named_on roll (rows 8 left))) (holds words m)) ∙ rw here at (inv.0 m)),
+          rw v (length_put words n ∙ inv.1),
         )
 
-    pub notes_out : r ≡ false → Notes words₀ roll s words (at + 8)
-    unfolding named_on
+    pub notes_out : r ≡ false → Notes words₀ roll s words left
+    unfolding named_on on_it
     notes_out t =
-        let same : named_on roll (rows 8 (drop at s)) ≡ named_on roll rest =
-        rw (rows_next 8 s at (omega arith) inv.1 f, keep_out (λ (x : Entry). marked bus_bit roll (source_bus x)) row rest (on ∙ t)) in
-        (rw same at inv.0, omega (arith, f), inv.2)
+        let same : named_on roll (rows 8 rest) ≡ named_on roll (rows 8 left) =
+        rw (c, rows_cut 8 e left (omega arith) l, keep_out on_it e (rows 8 left) (sym told ∙ t)) in
+        (rw same at inv.0, inv.1)

@@ -20,34 +20,30 @@ ghost use Rattle.judge.specs.Placed.{Placed};
 ghost use Rattle.sets.specs.Sets.{holds, members, set_bits};
 ghost use Rattle.slots.specs.Sets.{slots_most, slot_number, named_on, listed_on, slot_bytes, set_words, Held};
 
-use mps::{Examined, Lent, Sections, layout};
+use mps::{Refusal, Sections, layout};
+
+// How many slots a bus has, as a part of a slot's number.
+const BUS_SLOTS: usize = layout::BUS_SLOTS as usize;
 
 // The slots stand in the room from its first byte on.
-pub fn list(t: &[u8], out: &mut [u8]) -> Lent
+pub fn list(t: &[u8], out: &mut [u8]) -> Result<usize, Refusal>
     ensures value { result ≡ slots_listed t.now out.old }
     ensures out_after { out.new ≡ slots_left t.now out.old }
 {
-    let found = judge::examine(t);
-    match found {
-        Examined::Refused(n) => Lent::Refused(n),
-        Examined::Accepted(p) => of_table(t, p, out),
-    }
+    let p = judge::examine(t)?;
+    of_table(t, p, out)
 }
 
 // The same with the places of the table.
-fn of_table(t: &[u8], p: Sections, out: &mut [u8]) -> Lent
+fn of_table(t: &[u8], p: Sections, out: &mut [u8]) -> Result<usize, Refusal>
     requires { (table_refusal t.now ≡ 0) × (Placed t.now p) }
     ensures value { result ≡ slots_listed t.now out.old }
     ensures out_after { out.new ≡ slots_left t.now out.old }
 {
-    let buses = p.buses;
-    let ioapics = p.ioapics;
-    let interrupts = p.interrupts;
-    let locals = p.locals;
     let mut pci = [0; 256];
-    buses::pci(&mut pci, &t[buses..ioapics]);
-    let words = top(&t[buses..ioapics]) * 2;
-    let wired = &t[interrupts..locals];
+    buses::pci(&mut pci, &t[p.buses..p.ioapics]);
+    let words = top(&t[p.buses..p.ioapics]) * 2;
+    let wired = &t[p.interrupts..p.locals];
     if words <= 32 {
         let mut few = [0; 32];
         return of_set(&mut few[0..words], &pci, wired, out);
@@ -60,20 +56,15 @@ fn of_table(t: &[u8], p: Sections, out: &mut [u8]) -> Lent
 fn top(s: &[u8]) -> usize
     ensures { (0 < result) × (result ≤ 256) × ((x : ℕ) → result ≤ x → among x (each id_of (rows entry_size s.now)) ≡ false) }
 {
-    let mut top = 1;
-    let mut at = 0;
-    while layout::ENTRY_SIZE <= s.len() - at {
-        let id = numbers::wide(s[at + layout::ENTRY_ID]) as usize;
-        if top <= id {
-            top = id + 1;
-        }
-        at += layout::ENTRY_SIZE;
+    let mut top: u8 = 0;
+    for e in s.chunks_exact(layout::ENTRY_SIZE) {
+        top = top.max(e[layout::ENTRY_ID]);
     }
-    top
+    usize::from(top) + 1
 }
 
 // The slots that the entries name on the buses of the roll, by an empty set that has words for these.
-fn of_set(set: &mut [u64], pci: &[u8; 256], s: &[u8], out: &mut [u8]) -> Lent
+fn of_set(set: &mut [u64], pci: &[u8; 256], s: &[u8], out: &mut [u8]) -> Result<usize, Refusal>
     requires { (0 < length set.old) × (length set.old ≤ set_words) × ((n : ℕ) → holds set.old n ≡ false) × (Held pci.now (length set.old)) }
     ensures value { result ≡ fitted (listed_on pci.now (rows entry_size s.now))
         (length (listed_on pci.now (rows entry_size s.now)) / slot_size) out.old }
@@ -85,17 +76,17 @@ fn of_set(set: &mut [u64], pci: &[u8; 256], s: &[u8], out: &mut [u8]) -> Lent
         s.len() / layout::ENTRY_SIZE,
         out.len() / layout::SLOT_SIZE,
     ) {
-        return Lent::Refused(19);
+        return Err(Refusal::RoomTooSmall);
     }
-    let end = write(out, set);
-    Lent::Count(end / layout::SLOT_SIZE)
+    Ok(write(out, set) / layout::SLOT_SIZE)
 }
 
 // The number of the slot that a source names.
 fn number(bus: u8, irq: u8) -> usize
-    ensures { result ≡ slot_number bus irq }
+    ensures value { result ≡ slot_number bus irq }
+    ensures upper_bound { result < slots_most }
 {
-    numbers::wide(bus) as usize * layout::BUS_SLOTS as usize + (irq % layout::BUS_SLOTS) as usize
+    usize::from(bus) * BUS_SLOTS + usize::from(irq) % BUS_SLOTS
 }
 
 // Puts in what the entries name on the buses of the roll. Those of one bus mostly stand one behind the other: the word that
@@ -106,19 +97,17 @@ fn note(set: &mut [u64], pci: &[u8; 256], s: &[u8])
 {
     let mut k = 0;
     let mut word = set[0];
-    let mut at = 0;
-    while layout::ENTRY_SIZE <= s.len() - at {
-        let bus = s[at + layout::SOURCE_BUS];
+    for e in s.chunks_exact(layout::ENTRY_SIZE) {
+        let bus = e[layout::SOURCE_BUS];
         if roll::has(pci, bus, roll::BUS) {
-            let n = number(bus, s[at + layout::SOURCE_IRQ]);
+            let n = number(bus, e[layout::SOURCE_IRQ]);
             if n / 64 != k {
                 set[k] = word;
                 k = n / 64;
                 word = set[k];
             }
-            word = word | (1 << (n % 64));
+            word |= 1 << (n % 64);
         }
-        at += layout::ENTRY_SIZE;
     }
     set[k] = word;
 }
@@ -130,10 +119,8 @@ fn count(set: &[u64]) -> usize
     ensures { result ≡ length (members set.now) }
 {
     let mut n = 0;
-    let mut k = 0;
-    while k < set.len() {
-        n += u64::count_ones(set[k]) as usize;
-        k += 1;
+    for word in set {
+        n += word.count_ones() as usize;
     }
     n
 }
@@ -154,8 +141,8 @@ fn put_slot(out: &mut [u8], at: usize, n: usize)
     requires { (n < slots_most) × (at + slot_size ≤ length out.old) }
     ensures { out.new ≡ sets out.old at (slot_bytes n) }
 {
-    let source = (n % layout::BUS_SLOTS as usize) as u8;
-    out[at] = (n / layout::BUS_SLOTS as usize) as u8;
+    let source = (n % BUS_SLOTS) as u8;
+    out[at] = (n / BUS_SLOTS) as u8;
     out[at + 1] = source / layout::PINS;
     out[at + 2] = source % layout::PINS;
 }
@@ -170,9 +157,9 @@ fn put_word(out: &mut [u8], at: usize, word: u64, first: usize) -> usize
     let mut place = at;
     let mut rest = word;
     while rest != 0 {
-        put_slot(out, place, first + u64::trailing_zeros(rest) as usize);
+        put_slot(out, place, first + rest.trailing_zeros() as usize);
         place += layout::SLOT_SIZE;
-        rest = rest & (rest - 1);
+        rest &= rest - 1;
     }
     place
 }
@@ -184,10 +171,8 @@ fn write(out: &mut [u8], set: &[u64]) -> usize
     ensures out_after { out.new ≡ sets out.old 0 (joined slot_bytes (members set.now)) }
 {
     let mut place = 0;
-    let mut k = 0;
-    while k < set.len() {
-        place = put_word(out, place, set[k], k * 64);
-        k += 1;
+    for (k, word) in set.iter().enumerate() {
+        place = put_word(out, place, *word, k * 64);
     }
     place
 }

@@ -6,6 +6,3 @@ pub returns-then-said-eq-FREE : goal.returns-then-said-eq-FREE
 returns-then-said-eq-FREE c =
     let a = c.args in
     raise_same a.below.now a.at a.said c.if-said-eq-FREE.true
-
-pub returns : goal.returns
-returns c = rw c.higher.ensures

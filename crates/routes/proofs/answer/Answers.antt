@@ -4,7 +4,7 @@ use mathlib.Core.Path.{◌≡◌}
 use native.Mathlib.Omega.{arith}
 use lib.ListN.{length, take, replicate}
 use Rattle.apics.specs.Enabled.{enabled_in}
-use Rattle.routes.specs.Pairs.{wired}
+use Rattle.routes.specs.Pairs.{asked_by}
 use Rattle.roll.specs.Roll.{taken_bit, OnRoll}
 use Rattle.routes.proofs.Answering.{ids_most, ids_inside, ids_read, ids_known, answer_short, answer_room, answer_put}
 use Rattle.routes.proofs.answer.Goals as goal
@@ -30,29 +30,31 @@ gather-n-requires c =
     let bytes = c.type_inv.targets in
     (c.requires.0, ids_most c.args.size c.args.targets.now (λ i. omega (arith, bytes i)) c.requires.1)
 
-pub slice_bounds-ids-end : goal.slice_bounds-ids-end
-slice_bounds-ids-end c =
+pub slice_bounds-targets-end : goal.slice_bounds-targets-end
+slice_bounds-targets-end c =
     let a = c.args in
-    ids_inside (replicate 256 0) (enabled_in a.size a.targets.now) (most (goal.at.slice_bounds-ids-end c).After-gather-n) c.gather-n.ensures.value c.gather-n.ensures.ids_after
+    ids_inside (replicate 256 0) (enabled_in a.size a.targets.now) (most (goal.at.slice_bounds-targets-end c).After-gather-n) c.gather-n.ensures.value c.gather-n.ensures.ids_after
+
+pub invariant_of-targets : goal.invariant_of-targets
+invariant_of-targets c =
+    let k = known (goal.at.invariant_of-targets c).After-gather-n in
+    record { on_roll = k.0; few = k.1 }
 
 pub has_room-requires : goal.has_room-requires
-has_room-requires c =
-    ((known (goal.at.has_room-requires c).After-gather-n).0, (known (goal.at.has_room-requires c).After-gather-n).1, c.requires.2)
+has_room-requires c = c.requires.2
 
 pub returns-then-not-has_room : goal.returns-then-not-has_room
 returns-then-not-has_room c =
-    let a = c.args in let both = answer_short (enabled_in a.size a.targets.now) (wired a.itype a.bus a.irq a.low) _ a.out.now (read (goal.at.returns-then-not-has_room c).After-gather-n)
+    let a = c.args in let both = answer_short (enabled_in a.size a.targets.now) (asked_by a.wire.now) _ a.out.now (read (goal.at.returns-then-not-has_room c).After-gather-n)
     c.has_room.ensures c.if-not-has_room.true in record { value = both.0; out_after = both.1 }
 
 pub write-requires : goal.write-requires
 write-requires c =
-    let a = c.args in record {
-      on_roll = (known (goal.at.write-requires c).After-gather-n).0;
-      s_in_bounds = answer_room (enabled_in a.size a.targets.now) (wired a.itype a.bus a.irq a.low) _ a.out.now (read (goal.at.write-requires c).After-gather-n)
-          c.has_room.ensures c.if-not-has_room.false;
-    }
+    let a = c.args in
+    answer_room (enabled_in a.size a.targets.now) (asked_by a.wire.now) _ a.out.now (read (goal.at.write-requires c).After-gather-n)
+    c.has_room.ensures c.if-not-has_room.false
 
 pub returns : goal.returns
 returns c =
-    let a = c.args in let both = answer_put (enabled_in a.size a.targets.now) (wired a.itype a.bus a.irq a.low) _ a.out.now (read (goal.at.returns c).After-gather-n)
+    let a = c.args in let both = answer_put (enabled_in a.size a.targets.now) (asked_by a.wire.now) _ a.out.now (read (goal.at.returns c).After-gather-n)
     c.has_room.ensures c.if-not-has_room.false c.write.ensures.value c.write.ensures.out_after in record { value = both.0; out_after = both.1 }

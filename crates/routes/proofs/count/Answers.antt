@@ -1,34 +1,28 @@
 -- The loop keeps `Counts`.
-use Prim.Native.Nat.{◌+◌}
+use mathlib.Core.Path.{ap}
 use native.Mathlib.Omega.{arith}
-use lib.ListN.{get_or}
-use Rattle.routes.proofs.Counting.{named_most, counts_done, counts_named, counts_other}
+use lib.ListN.{length}
+use Rattle.routes.proofs.Counting.{counts_done, counts_named, counts_other}
 use Rattle.routes.proofs.count.Goals as goal
-use Rattle.routes.proofs.count.Goals.{then-asked, else-asked}
 
-pub loop-at-init : goal.loop-at-init
-loop-at-init c = (omega arith, omega arith, omega arith)
+pub loop-e-preserved-then-asks : goal.loop-e-preserved-then-asks
+loop-e-preserved-then-asks c =
+    let l = c.loop-e in
+    let s = c.in-Some.ensures.steps in (
+      omega (arith, s.0, l.invariant.0),
+      counts_named l.invariant.1 c.in-Some.e.now _ (omega (arith, s.1.1, l.invariant.0)) s.1.0 c.asks.ensures _ c.if-asks.true
+          c.args.targets.few (ap length c.named.ensures),
+    )
 
-pub names-pairs-requires : goal.names-pairs-requires
-names-pairs-requires c = c.requires.0
-
-pub overflow_add-pairs : goal.overflow_add-pairs
-overflow_add-pairs c =
-    let a = c.args in
-    let l = c.loop-at in
-    let n = named_most a.ids.now (get_or a.s.now (l.at + 6) 0) in
-    omega (arith, n)
-
-pub loop-at-preserved : goal.loop-at-preserved
-loop-at-preserved c =
-    let l = c.loop-at in
-    let told = c.asked.ensures in
-    elim c.if-asked.branch [
-      | then-asked w ↦ rw w.pairs-is
-          (counts_named _ _ _ _ _ l.invariant (omega arith) told _ w.if-asked.true (omega arith) w.names-pairs.ensures)
-      | else-asked w ↦ rw w.pairs-is (counts_other _ _ _ _ _ l.invariant (omega arith) told w.if-asked.false)
-    ]
+pub loop-e-preserved : goal.loop-e-preserved
+loop-e-preserved c =
+    let l = c.loop-e in
+    let s = c.in-Some.ensures.steps in (
+      omega (arith, s.0, l.invariant.0),
+      counts_other l.invariant.1 c.in-Some.e.now _ (omega (arith, s.1.1, l.invariant.0)) s.1.0 c.asks.ensures c.if-asks.false,
+    )
 
 pub returns : goal.returns
 returns c =
-    let both = counts_done _ _ _ _ _ c.loop-at.invariant (omega arith) in record { value = both.0; upper_bound = both.1 }
+    let both = counts_done c.loop-e.invariant.1 (omega (arith, c.in-None.ensures.steps.1.0, c.loop-e.invariant.0)) in
+    record { value = both.0; upper_bound = both.1 }

@@ -1,10 +1,9 @@
-use Prim.Native.Nat.{◌-◌}
-use lib.ListN.{length}
+use Rattle.std.proofs.Common.{◌≡◌}
+use Rattle.std.specs.Slice.Iter.{chunks_exact_rest, chunks_exact_size}
 use Rattle.routes.proofs.Counting.{Gathers}
 use Rattle.routes.proofs.gather.Given as goal
 
-abbrev pub invariant-loop-at : goal.invariant-loop-at
-invariant-loop-at l = Gathers l.initial.roll l.initial.ids l.s l.size l.roll l.ids l.count l.at
-
-abbrev pub decreases-loop-at : goal.decreases-loop-at
-decreases-loop-at l = length l.s - l.at
+abbrev pub invariant-loop-e : goal.invariant-loop-e
+invariant-loop-e l =
+    (chunks_exact_size l.e-iterator ≡ l.size)
+    × Gathers l.initial.roll l.initial.ids l.s l.size l.roll l.ids l.count (chunks_exact_rest l.e-iterator)

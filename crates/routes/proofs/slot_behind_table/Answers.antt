@@ -39,4 +39,4 @@ of_side-requires c = c.requires
 pub returns : goal.returns
 returns c =
     let a = c.args in let both = right_slot a.t.now a.p c.requires.0 c.requires.1 a.bus a.device a.pin a.out.now
-    c.is_pci.ensures c.if-not-is_pci.false c.if-device-pin.false (c.of_side.ensures.value, c.of_side.ensures.out_after) c.answered.ensures in record { value = both.0; out_after = both.1 }
+    c.is_pci.ensures c.if-not-is_pci.false c.if-device-pin.false (c.of_side.ensures.value, c.of_side.ensures.out_after) in record { value = both.0; out_after = both.1 }

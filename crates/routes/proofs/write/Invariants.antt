@@ -1,12 +1,11 @@
-use Prim.Native.Nat.{◌-◌, ◌≤◌}
-use lib.ListN.{length}
+use Rattle.std.proofs.Common.{◌≡◌}
+use Rattle.std.specs.Slice.Iter.{chunks_exact_rest, chunks_exact_size}
 use Rattle.laws.proofs.Writes.{Writes}
-use Rattle.routes.specs.Pairs.{wired}
-use Rattle.routes.proofs.Writing.{pairs_from}
+use Rattle.mps.specs.Sections.{rows}
+use Rattle.routes.specs.Pairs.{asked_by, pairs_in}
 use Rattle.routes.proofs.write.Given as goal
 
-abbrev pub invariant-loop-at : goal.invariant-loop-at
-invariant-loop-at l = Writes l.initial.out 0 (pairs_from l.ids (wired l.itype l.bus l.irq l.low) l.s 0) l.out l.place (pairs_from l.ids (wired l.itype l.bus l.irq l.low) l.s l.at) × (l.at ≤ length l.s)
-
-abbrev pub decreases-loop-at : goal.decreases-loop-at
-decreases-loop-at l = length l.s - l.at
+abbrev pub invariant-loop-e : goal.invariant-loop-e
+invariant-loop-e l =
+    (chunks_exact_size l.e-iterator ≡ 8)
+    × Writes l.initial.out 0 (pairs_in l.targets.ids.now (asked_by l.wire) (rows 8 l.s)) l.out l.place (pairs_in l.targets.ids.now (asked_by l.wire) (rows 8 (chunks_exact_rest l.e-iterator)))

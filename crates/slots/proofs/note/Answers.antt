@@ -1,66 +1,56 @@
 -- The loop keeps `Notes`, with the word that is kept at hand put where it belongs.
-use Prim.Native.Nat.{◌+◌}
-use mathlib.Core.Path.{refl, ◌∙◌}
+use Prim.Native.Nat.{◌/◌, ◌<◌}
+use mathlib.Core.Path.{◌∙◌}
 use native.Mathlib.Omega.{arith}
-use lib.ListN.{set, length-set}
-use lib.Seq.{set-get_or}
+use lib.ListN.{length, length-set, set}
 use Rattle.sets.proofs.Words.{shift_put, kept_put}
 use Rattle.slots.proofs.Sets.{notes_done, notes_inside, notes_in, notes_out}
 use Rattle.slots.proofs.note.Goals as goal
-use Rattle.slots.proofs.note.Goals.{then-has, else-has, then-n-k, else-n-k}
+use Rattle.slots.proofs.note.Goals.{After-number-n, then-n-k, else-n-k}
 
-pub loop-at-init : goal.loop-at-init
-loop-at-init c =
-    let w = c.args.set.now in (rw (set-get_or w 0 0) (λ n. refl, omega arith, refl), c.requires.0, refl)
-
-pub offset_bounds-set-k : goal.offset_bounds-set-k
-offset_bounds-set-k c = omega (arith, c.loop-at.invariant.1, c.loop-at.invariant.2, c.requires.1)
-
-pub bounds-set-k : goal.bounds-set-k
-bounds-set-k c = c.loop-at.invariant.1
+inside :
+    (c : After-number-n) → let l = c.loop-e in
+    c.number-n.result / 64 < length (set l.set l.k l.word)
+inside c =
+    let s = c.in-Some.ensures.steps in
+    notes_inside _ _ _ _ _ c.loop-e.invariant.1 c.in-Some.e.now _ (omega (arith, s.1.1, c.loop-e.invariant.0)) s.1.0 c.has.ensures c.if-has.true
+    c.requires.2 c.number-n.ensures.value c.number-n.ensures.upper_bound
 
 pub bounds-set-k-then-n-k : goal.bounds-set-k-then-n-k
-bounds-set-k-then-n-k c =
-    notes_inside _ _ _ _ _ c.loop-at.invariant.0 (omega arith) c.has.ensures c.if-has.true
-    (omega (arith, c.type_inv.s (c.loop-at.at + 4))) c.requires.2 c.number-n.ensures
+bounds-set-k-then-n-k c = inside (goal.at.bounds-set-k-then-n-k c).After-number-n
 
-pub loop-at-preserved : goal.loop-at-preserved
-loop-at-preserved c =
-    let l = c.loop-at in
-    let told = c.has.ensures in
-    let pre = c.requires in
-    let same = length-set l.set l.k l.word in
-    let byte = c.type_inv.s (l.at + 4) in
-    elim c.if-has.branch [
-      | then-has w ↦ let n = w.number-n.ensures in
-          let here = w.number-n.result in
-          let on = w.if-has.true in
-          let inside = notes_inside _ _ _ _ _ l.invariant.0 (omega arith) told on (omega (arith, byte)) pre.2 n in
-          rw (w.set-is, w.k-is, w.word-is)
-          (elim w.if-n-k.branch [
-            | then-n-k v ↦ rw (v.set-is, v.k-is, v.word-is) (
-              notes_in _ _ _ _ _ l.invariant.0 (omega arith) told on n inside (shift_put (set l.set l.k l.word) here),
-              inside,
-              same ∙ l.invariant.2,
-            )
-            | else-n-k v ↦ rw (v.set-is, v.k-is, v.word-is) (
-              notes_in _ _ _ _ _ l.invariant.0 (omega arith) told on n inside (kept_put l.set here l.k l.word (omega (arith, v.if-n-k.false))),
-              l.invariant.1,
-              l.invariant.2,
-            )
-          ])
-      | else-has w ↦ rw (w.set-is, w.k-is, w.word-is)
-          (notes_out _ _ _ _ _ l.invariant.0 (omega arith) told w.if-has.false, l.invariant.1, l.invariant.2)
+pub loop-e-preserved-then-has : goal.loop-e-preserved-then-has
+loop-e-preserved-then-has c =
+    let l = c.loop-e in
+    let s = c.in-Some.ensures.steps in
+    let size = l.invariant.0 in
+    let n = c.number-n.result in
+    let room = inside (goal.at.loop-e-preserved-then-has c).After-number-n in
+    elim c.if-n-k.branch [
+      | then-n-k v ↦ rw (v.set-is, v.k-is, v.word-is) (
+        omega (arith, s.0, size),
+        notes_in _ _ _ _ _ l.invariant.1 c.in-Some.e.now _ (omega (arith, s.1.1, size)) s.1.0 c.has.ensures c.if-has.true c.number-n.ensures.value room (shift_put (set l.set l.k l.word) n),
+        room,
+        length-set l.set l.k l.word ∙ l.invariant.3,
+      )
+      | else-n-k v ↦ rw (v.set-is, v.k-is, v.word-is) (
+        omega (arith, s.0, size),
+        notes_in _ _ _ _ _ l.invariant.1 c.in-Some.e.now _ (omega (arith, s.1.1, size)) s.1.0 c.has.ensures c.if-has.true c.number-n.ensures.value room (kept_put l.set n l.k l.word (omega (arith, v.if-n-k.false))),
+        l.invariant.2,
+        l.invariant.3,
+      )
     ]
 
-pub offset_bounds-set-k-2 : goal.offset_bounds-set-k-2
-offset_bounds-set-k-2 c = omega (arith, c.loop-at.invariant.1, c.loop-at.invariant.2, c.requires.1)
-
-pub bounds-set-k-2 : goal.bounds-set-k-2
-bounds-set-k-2 c = c.loop-at.invariant.1
-
-pub shape_of-set : goal.shape_of-set
-shape_of-set c = let l = c.loop-at in length-set l.set l.k l.word ∙ l.invariant.2
+pub loop-e-preserved : goal.loop-e-preserved
+loop-e-preserved c =
+    let l = c.loop-e in
+    let s = c.in-Some.ensures.steps in
+    let size = l.invariant.0 in (
+      omega (arith, s.0, size),
+      notes_out _ _ _ _ _ l.invariant.1 c.in-Some.e.now _ (omega (arith, s.1.1, size)) s.1.0 c.has.ensures c.if-has.false,
+      l.invariant.2,
+      l.invariant.3,
+    )
 
 pub returns : goal.returns
-returns c = notes_done _ _ _ _ _ c.loop-at.invariant.0 (omega arith)
+returns c = notes_done _ _ _ _ _ c.loop-e.invariant.1 (omega (arith, c.in-None.ensures.steps.1.0, c.loop-e.invariant.0))

@@ -1,11 +1,12 @@
-use Prim.Native.Nat.{◌-◌, ◌<◌}
-use mathlib.Core.Path.{◌≡◌}
-use lib.ListN.{length, set}
+use Rattle.std.proofs.Common.{◌≡◌, ◌<◌, length}
+use Rattle.std.specs.Slice.Iter.{chunks_exact_rest, chunks_exact_size}
+use lib.ListN.{set}
 use Rattle.slots.proofs.Sets.{Notes}
 use Rattle.slots.proofs.note.Given as goal
 
-abbrev pub invariant-loop-at : goal.invariant-loop-at
-invariant-loop-at l = Notes l.initial.set l.pci l.s (set l.set l.k l.word) l.at × (l.k < length l.set) × (length l.set ≡ length l.initial.set)
-
-abbrev pub decreases-loop-at : goal.decreases-loop-at
-decreases-loop-at l = length l.s - l.at
+abbrev pub invariant-loop-e : goal.invariant-loop-e
+invariant-loop-e l =
+    (chunks_exact_size l.e-iterator ≡ 8)
+    × Notes l.initial.set l.pci l.s (set l.set l.k l.word) (chunks_exact_rest l.e-iterator)
+    × (l.k < length l.set)
+    × (length l.set ≡ length l.initial.set)

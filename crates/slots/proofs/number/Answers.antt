@@ -5,4 +5,4 @@ use Rattle.slots.proofs.number.Goals as goal
 
 pub returns : goal.returns
 unfolding slot_number
-returns c = omega arith
+returns c = record { value = omega arith; upper_bound = omega arith }

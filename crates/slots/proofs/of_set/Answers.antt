@@ -21,13 +21,13 @@ pub returns-then-not-fits : goal.returns-then-not-fits
 returns-then-not-fits c =
     let both = set_short c.args.pci.now (rows 8 c.args.s.now) _ _ (size (goal.at.returns-then-not-fits c).After-note) c.requires.2 c.note.ensures c.args.out.now c.fits.ensures c.if-not-fits.true in record { value = both.0; out_after = both.1 }
 
-pub write-end-requires : goal.write-end-requires
-write-end-requires c = (
-  size (goal.at.write-end-requires c).After-note,
-  set_fits c.args.pci.now (rows 8 c.args.s.now) _ _ (size (goal.at.write-end-requires c).After-note) c.requires.2 c.note.ensures c.args.out.now c.fits.ensures c.if-not-fits.false,
+pub write-requires : goal.write-requires
+write-requires c = (
+  size (goal.at.write-requires c).After-note,
+  set_fits c.args.pci.now (rows 8 c.args.s.now) _ _ (size (goal.at.write-requires c).After-note) c.requires.2 c.note.ensures c.args.out.now c.fits.ensures c.if-not-fits.false,
 )
 
 pub returns : goal.returns
 returns c =
     let both = set_put c.args.pci.now (rows 8 c.args.s.now) _ _ (size (goal.at.returns c).After-note) c.requires.2 c.note.ensures c.args.out.now c.fits.ensures c.if-not-fits.false
-    c.write-end.ensures.value c.write-end.ensures.out_after in record { value = both.0; out_after = both.1 }
+    c.write.ensures.value c.write.ensures.out_after in record { value = both.0; out_after = both.1 }

@@ -1,23 +1,17 @@
 -- The loop keeps `Tops`.
-use mathlib.Core.Path.{refl}
 use native.Mathlib.Omega.{arith}
 use Rattle.slots.proofs.Sets.{tops_done, tops_next}
 use Rattle.slots.proofs.top.Goals as goal
-use Rattle.slots.proofs.top.Goals.{then-top-id, else-top-id}
 
-pub loop-at-init : goal.loop-at-init
-loop-at-init c = (λ x h. refl, omega arith, omega arith, omega arith)
-
-pub loop-at-preserved : goal.loop-at-preserved
-loop-at-preserved c =
-    let l = c.loop-at in
-    let id = c.wide-id.ensures in
-    elim c.if-top-id.branch [
-      | then-top-id w ↦ rw w.top-is
-          (tops_next _ _ _ l.invariant (omega arith) (omega (arith, w.if-top-id.true)) (omega (arith, id.1)) (omega (arith, id.0)))
-      | else-top-id w ↦ rw w.top-is
-          (tops_next _ _ _ l.invariant (omega arith) (omega arith) l.invariant.2 (omega (arith, id.0, w.if-top-id.false)))
-    ]
+pub loop-e-preserved : goal.loop-e-preserved
+loop-e-preserved c =
+    let s = c.in-Some.ensures.steps in
+    let size = c.loop-e.invariant.0 in
+    (omega (arith, s.0, size), tops_next _ _ _ c.loop-e.invariant.1 c.in-Some.e.now _ (omega (arith, s.1.1, size)) s.1.0 c.max-top.ensures, omega arith)
 
 pub returns : goal.returns
-returns c = tops_done _ _ _ c.loop-at.invariant (omega arith)
+returns c = (
+  omega arith,
+  omega arith,
+  λ x h. tops_done _ _ _ c.loop-e.invariant.1 (omega (arith, c.in-None.ensures.steps.1.0, c.loop-e.invariant.0)) x (omega (arith, h, c.from.ensures)),
+)

@@ -1,10 +1,7 @@
-use Prim.Native.Nat.{◌-◌}
-use lib.ListN.{length}
+use Rattle.std.proofs.Common.{◌≡◌, ◌<◌}
+use Rattle.std.specs.Slice.Iter.{chunks_exact_rest, chunks_exact_size}
 use Rattle.slots.proofs.Sets.{Tops}
 use Rattle.slots.proofs.top.Given as goal
 
-abbrev pub invariant-loop-at : goal.invariant-loop-at
-invariant-loop-at l = Tops l.s l.top l.at
-
-abbrev pub decreases-loop-at : goal.decreases-loop-at
-decreases-loop-at l = length l.s - l.at
+abbrev pub invariant-loop-e : goal.invariant-loop-e
+invariant-loop-e l = (chunks_exact_size l.e-iterator ≡ 8) × Tops l.s (chunks_exact_rest l.e-iterator) l.top × (l.top < 256)
