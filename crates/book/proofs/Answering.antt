@@ -1,5 +1,6 @@
 -- The ways out: what the code has found there, and the answer. Assumes nothing.
 use Prim.Native.Nat.{ℕ, ◌+◌, ◌*◌, ◌≤◌, ◌<◌}
+use Rattle.std.proofs.Common.{Option, Some, None}
 use mathlib.Core.Path.{◌≡◌, refl, sym, ap, ◌∙◌}
 use mathlib.Core.Bool.{Bool, true, false, ◌&&◌}
 use mathlib.Core.List.{List, []}
@@ -13,7 +14,7 @@ use Rattle.mps.specs.Numbers.{le}
 use Rattle.mps.specs.Refusals.{refusal, room_number}
 use Rattle.mps.specs.Answers.{booked_numbers}
 use Rattle.mps.specs.Rooms.{too_small, fitted, fit_left}
-use Rattle.mps.specs.Layout.{book_head, book_rows, book_row, body_start, body_size}
+use Rattle.mps.specs.Layout.{book_most, book_head, book_rows, book_row}
 use Rattle.mps.specs.Book.{BookLayout, layout1, latest, editions_run, bodies_at, book_of, rows_of, good_book, bad_book}
 use Rattle.mps.specs.History.{book_rules, book_refusal, booked, latest_told, edition_rules, edition_refusal, body_told}
 use Rattle.mps.specs.History.{history_width, history_of, history_refusal, history_told, history_left}
@@ -27,11 +28,14 @@ use Rattle.laws.proofs.Tests.{whether}
 use Rattle.laws.proofs.Refusals.{number}
 use Rattle.laws.proofs.Lent.{lent_early, left_kept, lent_refused, fit_put, fit_short, fit_late}
 use Rattle.laws.proofs.Small.{Bytes}
-use Rattle.pages.specs.Pages.{end_of, rows_most, found_in, Measured, Readable}
+use Rattle.pages.specs.Pages.{end_of, rows_most, Measured, Readable}
 use Rattle.pages.proofs.Bytes.{readable1, length_rows_from, length_book, length_rows}
 use Rattle.pages.proofs.Good.{book_most_lem, ends_good, bad_end, bad_editions, ends_rows, good_placed}
 use Rattle.pages.proofs.Editions.{found_none, found_some, found_good}
 use Rattle.pages.proofs.Answered.{book_answered}
+use Rattle.rows.specs.declared.Row.{Row}
+use Rattle.rows.specs.Fields.{found_row}
+use Rattle.rows.proofs.Laws.{row_none, row_some}
 use Rattle.book.specs.Listed.{rows_listed}
 use Rattle.book.proofs.Laws.{rows_listed_lem}
 
@@ -108,24 +112,27 @@ module _ (l : BookLayout) (s : List ℕ) (m n : ℕ) where
   unfolding body_told edition_refusal edition_rules bad_book refusal
   body_refused e k = let b = booked_refused l s e k in rw (b.0, b.1)
 
-  module _ (good : good_book l s ≡ true) {at : ℕ} (e : at ≡ found_in l m n s) where
-    pub body_none : at ≡ 0 → Body-as-Refused 28 ≡ body_told l s m n
-    unfolding body_told edition_refusal edition_rules bad_book refusal
-    body_none z = rw (good, found_none l m n s (sym e ∙ z))
+module _ (s : List ℕ) (m n : ℕ) (good : good_book layout1 s ≡ true) {found : Option Row} (e : found ≡ found_row m n s) where
+  pub body_none : found ≡ None → Body-as-Refused 28 ≡ body_told layout1 s m n
+  unfolding body_told edition_refusal edition_rules bad_book refusal
+  body_none z = rw (good, found_none layout1 m n s (row_none m n s (sym e ∙ z)))
 
-    pub body_stands :
-        Readable l → (at ≡ 0 → ⊥) → {size start : ℕ} → size ≡ body_size l.width s at → start ≡ body_start l.width s at
-        → Stands size start ≡ body_told l s m n
-    unfolding body_told edition_refusal edition_rules bad_book refusal
-    body_stands readable z es et =
-        let some : found_in l m n s ≡ 0 → ⊥ = λ q. z (e ∙ q) in
-        let tells = found_good l m n s readable good some in
-        rw (good, found_some l m n s some, es, et, e, tells.size, tells.begins)
+  pub body_stands : {r : Row} → found ≡ Some r → Stands r.size r.start ≡ body_told layout1 s m n
+  unfolding body_told edition_refusal edition_rules bad_book refusal
+  body_stands z =
+      let q = row_some m n s (sym e ∙ z) in
+      let tells = found_good layout1 m n s readable1 good q.0 in
+      rw (good, found_some layout1 m n s q.0, q.1, tells.size, tells.begins)
 
 -- ---- The history
 
 abbrev pub Answers : BookLayout → List ℕ → List ℕ → Lent → List ℕ → Type 0
 Answers l s room r u = (r ≡ history_told l s room) × (u ≡ history_left l s room)
+
+pub few_rows :
+    (s : List ℕ) (rows : ℕ) → good_book layout1 s ≡ true → rows ≡ length (rows_of layout1 s) → book_head + rows * book_row 2 ≤ book_most
+unfolding bodies_at
+few_rows s rows good e = rw e (omega (arith, book_most_lem layout1 s good, length_book layout1 (rows_of layout1 s)))
 
 module _ (l : BookLayout) (s room : List ℕ) where
   some : among 0 (each number (book_rules l s)) ≡ false
@@ -156,10 +163,6 @@ module _ (l : BookLayout) (s room : List ℕ) where
 
     pub history_short : length room < rows * book_row history_width → Answers l s room (Lent-as-Refused room_number) room
     history_short h = fitting (fit_short (history_of l s) (length (rows_of l s)) room (omega (arith, size, h)))
-
-    pub history_rows : book_head + rows * book_row l.width ≤ l.most
-    unfolding bodies_at
-    history_rows = rw e (omega (arith, book_most_lem l s good, length_book l (rows_of l s)))
 
     listed : Readable l → rows_listed l.width s book_head rows ≡ history_of l s
     unfolding history_of rows_of

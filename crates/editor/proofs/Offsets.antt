@@ -1,5 +1,5 @@
 -- Where the entry at a place stands, by how many processors there are. Assumes nothing.
-use Rattle.std.proofs.Common.{◌≡◌, ℕ, zero, suc, ◌+◌, ◌-◌, ◌*◌, ◌/◌, ◌<◌, ◌≤◌, true, eqb, List, [], ◌∷◌, ◌++◌, length, sym, refl, ◌∙◌, suc-mul, zero-mul, arith, length-append, eqb-true}
+use Rattle.std.proofs.Common.{◌≡◌, ℕ, zero, suc, ◌+◌, ◌-◌, ◌*◌, ◌/◌, ◌<◌, ◌≤◌, true, eqb, List, [], ◌∷◌, ◌++◌, length, sym, refl, ◌∙◌, suc-mul, zero-mul, arith, length-append, eqb-true, min, ltb, ltb-true, ltb-false}
 use Rattle.mps.specs.Words.{part, every, each, keep, cut}
 use Rattle.mps.specs.Sums.{total}
 use Rattle.mps.specs.Layout.{Entry, header_size, processor_size, entry_size, part_most, entry_count, base_entries}
@@ -109,9 +109,26 @@ module _ (t : List ℕ) (p : Sections) (a : Accepted t p) {place : ℕ} (h : pla
   pub counted : place < length (base_entries t)
   counted = omega (arith, (sound t a.number).counted, h)
 
-module _ (t : List ℕ) (p : Sections) (a : Accepted t p) {n : ℕ} (e : n ≡ (p.buses - header_size) / processor_size) (place : ℕ) where
-  -- No entry begins behind the base, which has 4,096 bytes at most.
-  pub other_inside : n ≤ place → place < entry_count t → header_size + processor_size * n + entry_size * (place - n) ≤ part_most
-  other_inside l h =
-      let s = sound t a.number in
-      omega (arith, of_other t p a.placed e place l (counted t p a h), (stands t place s h).inside, s.most)
+module _ {t : List ℕ} {p : Sections} (a : Accepted t p) where
+  pub from_header : header_size ≤ p.buses
+  from_header = a.placed.from_header
+
+  module _ (place : ℕ) (h : place < entry_count t) where
+    abbrev first : ℕ
+    first = min place ((p.buses - header_size) / processor_size)
+
+    pub place_of : header_size + processor_size * first + entry_size * (place - first) ≡ offset_of t place
+    place_of =
+        let n = (p.buses - header_size) / processor_size in
+        whether (ltb place n)
+        (λ l. let k : first ≡ place = omega (arith, ltb-true place n l) in
+        let z : place - place ≡ 0 = omega arith in
+        rw (k, z) (omega (arith, of_processor t p a.placed {n = n} refl place (ltb-true place n l))))
+        (λ l. let m = ltb-false place n l in
+        let k : first ≡ n = omega (arith, m) in
+        rw k (of_other t p a.placed refl place m (counted t p a h)))
+
+    pub place_inside : header_size + processor_size * first + entry_size * (place - first) ≤ part_most
+    place_inside =
+        let s = sound t a.number in
+        omega (arith, place_of, (stands t place s h).inside, s.most)

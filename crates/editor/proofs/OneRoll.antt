@@ -1,23 +1,13 @@
 -- IDs looked for in entries, and the roll that an interrupt is judged by. Assumes nothing.
-use Rattle.std.proofs.Common.{◌≡◌, ℕ, ◌+◌, ◌<◌, Bool, true, false, ◌&&◌, ◌||◌, eqb, List, [], ◌∷◌, length, get_or, take, drop, replicate, sym, refl, ◌∙◌, eq-eqb, ne_eqb}
+use Rattle.std.proofs.Common.{◌≡◌, ℕ, ◌<◌, Bool, true, false, ◌&&◌, ◌||◌, eqb, List, [], ◌∷◌, length, replicate, refl, ◌∙◌, eq-eqb}
 use mathlib.Core.Bool.{and-true, and-false}
 use lib.ListN.{length-replicate}
 use Rattle.mps.specs.Words.{bit, among, any, each}
 use Rattle.mps.specs.Layout.{Entry, id_of, everyone, source_bus, destination}
 use Rattle.laws.proofs.Tests.{eqb_comm, whether}
-use Rattle.laws.proofs.Rows.{row_byte}
 use Rattle.roll.specs.Roll.{marked}
 use Rattle.roll.proofs.Laws.{length_marks, marked_put, marked_none}
 use Rattle.editor.specs.Amended.{has, enrolled_if, roll_for}
-
--- ---- At a place of a slice
-
-module _ (n k id : ℕ) (s : List ℕ) (at : ℕ) (h : k < n) where
-  pub id_here : get_or s (at + k) 0 ≡ id → true ≡ has k id (take n (drop at s))
-  id_here q = sym (eq-eqb _ id (row_byte n s at k h ∙ q))
-
-  pub id_other : (get_or s (at + k) 0 ≡ id → ⊥) → false ≡ has k id (take n (drop at s))
-  id_other d = sym (ne_eqb _ id (λ q. d (sym (row_byte n s at k h) ∙ q)))
 
 -- ---- Among the IDs
 

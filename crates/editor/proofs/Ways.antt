@@ -36,20 +36,13 @@ module _ {u : List ℕ} {p : Sections} (h : Placed u p) where
   -- ---- Who speaks of a bus
 
   module _ (bus : ℕ) where
-    comes_rows :
+    pub comes_rows :
         comes_from u bus
         ≡ (any (has 4 bus) (rows 8 (part p.interrupts p.locals u)) || any (has 4 bus) (rows 8 (part p.locals p.mappings u)))
     unfolding comes_from
     comes_rows = rw (h.interrupts, h.locals)
 
-    module _ {i : Bool} (ei : i ≡ any (has 4 bus) (rows 8 (part p.interrupts p.locals u))) where
-      pub comes_io : i ≡ true → true ≡ comes_from u bus
-      comes_io y = sym (comes_rows ∙ rw (← ei, y))
-
-      pub comes_local : i ≡ false → {l : Bool} → l ≡ any (has 4 bus) (rows 8 (part p.locals p.mappings u)) → l ≡ comes_from u bus
-      comes_local n el = sym (comes_rows ∙ rw (← ei, ← el, n))
-
-    speaks_rows :
+    pub speaks_rows :
         speaks_of u bus
         ≡ (any (has 2 bus) (rows 20 (part p.mappings p.links u))
         || any (has 2 bus) (rows 8 (part p.links p.modifiers u))
@@ -57,21 +50,6 @@ module _ {u : List ℕ} {p : Sections} (h : Placed u p) where
         || any (has 2 bus) (rows 8 (part p.modifiers p.others u)))
     unfolding speaks_of links
     speaks_rows = rw (h.mappings, h.links, h.modifiers)
-
-    module _ {m : Bool} (em : m ≡ any (has 2 bus) (rows 20 (part p.mappings p.links u))) where
-      pub speaks_mapping : m ≡ true → true ≡ speaks_of u bus
-      speaks_mapping y = sym (speaks_rows ∙ rw (← em, y))
-
-      module _ (nm : m ≡ false) {l : Bool} (el : l ≡ any (has 2 bus) (rows 8 (part p.links p.modifiers u))) where
-        pub speaks_link : l ≡ true → true ≡ speaks_of u bus
-        speaks_link y = sym (speaks_rows ∙ rw (← em, nm, ← el, y))
-
-        module _ (nl : l ≡ false) {a : Bool} (ea : a ≡ any (has 4 bus) (rows 8 (part p.links p.modifiers u))) where
-          pub speaks_parent : a ≡ true → true ≡ speaks_of u bus
-          speaks_parent y = sym (speaks_rows ∙ rw (← em, nm, ← el, nl, ← ea, y))
-
-          pub speaks_modifier : a ≡ false → {o : Bool} → o ≡ any (has 2 bus) (rows 8 (part p.modifiers p.others u)) → o ≡ speaks_of u bus
-          speaks_modifier na eo = sym (speaks_rows ∙ rw (← em, nm, ← el, nl, ← ea, na, ← eo))
 
   -- ---- A bus
 

@@ -23,57 +23,46 @@ pub(super) fn number(t: &[u8], p: Sections, at: usize, old: u8) -> u8
     requires { Amended t.now p at old }
     ensures { result ≡ table_refusal t.now }
 {
-    let kind = t[at];
-    if kind == layout::PROCESSOR_TYPE {
-        return processor(t, p, old);
+    match t[at] {
+        layout::PROCESSOR_TYPE => processor(t, p, old),
+        layout::BUS_TYPE => bus(t, p, old),
+        layout::IO_APIC_TYPE => io_apic(t, p, old),
+        layout::IO_INTERRUPT_TYPE => io_interrupt(t, p, at),
+        _ => local_interrupt(t, p, at),
     }
-    if kind == layout::BUS_TYPE {
-        return bus(t, p, old);
-    }
-    if kind == layout::IO_APIC_TYPE {
-        return io_apic(t, p, old);
-    }
-    if kind == layout::IO_INTERRUPT_TYPE {
-        return io_interrupt(t, p, at);
-    }
-    local_interrupt(t, p, at)
 }
 
 // ---- Processors, buses and I/O APICs
 
 // 14, and 17 of local interrupts. The local APIC address is the header's, and stays.
+#[tactic(auto, using(crate::proofs::Ways::by_14, crate::proofs::Ways::local_17, crate::proofs::Ways::cpu_past))]
 fn processor(t: &[u8], p: Sections, old: u8) -> u8
     requires { (Placed t.now p) × (local_apic t.now % local_apic_step ≡ 0) }
     ensures { result ≡ refusal (processor_rules t.now old) }
 {
-    let end = p.buses;
     let mut roll: [u8; 256] = [0; 256];
     roll::put(&mut roll, layout::EVERYONE, roll::TAKEN_MARKS);
-    if apics::wrong_processors(&mut roll, &t[layout::HEADER_SIZE..end]) {
+    if apics::wrong_processors(&mut roll, &t[layout::HEADER_SIZE..p.buses]) {
         return 14;
     }
-    let start = p.locals;
-    let stop = p.mappings;
-    if ends_at_lost(&roll, roll::PROCESSOR, &t[start..stop], old) {
+    if ends_at_lost(&roll, roll::PROCESSOR, &t[p.locals..p.mappings], old) {
         return 17;
     }
     0
 }
 
 // 16, and 17 of I/O interrupts.
+#[tactic(auto, using(crate::proofs::Ways::by_16, crate::proofs::Ways::io_17, crate::proofs::Ways::apic_past))]
 fn io_apic(t: &[u8], p: Sections, old: u8) -> u8
     requires { Placed t.now p }
     ensures { result ≡ refusal (io_apic_rules t.now old) }
 {
-    let first = p.ioapics;
-    let end = p.interrupts;
     let mut roll: [u8; 256] = [0; 256];
     roll::put(&mut roll, layout::EVERYONE, roll::TAKEN_MARKS);
-    if apics::wrong_io_apics(&mut roll, &t[first..end]) {
+    if apics::wrong_io_apics(&mut roll, &t[p.ioapics..p.interrupts]) {
         return 16;
     }
-    let stop = p.locals;
-    if ends_at_lost(&roll, roll::IO_APIC, &t[end..stop], old) {
+    if ends_at_lost(&roll, roll::IO_APIC, &t[p.interrupts..p.locals], old) {
         return 17;
     }
     0
@@ -83,21 +72,19 @@ fn io_apic(t: &[u8], p: Sections, old: u8) -> u8
 fn ends_at_lost(roll: &[u8; 256], k: u8, s: &[u8], old: u8) -> bool
     ensures { result ≡ (not (old == everyone || marked (k % 8) roll.now old) && any (ends_at old) (rows entry_size s.now)) }
 {
-    if (old == layout::EVERYONE) | roll::has(roll, old, k) {
-        return false;
-    }
-    any_has(s, layout::ENTRY_SIZE, layout::DESTINATION, old)
+    old != layout::EVERYONE
+        && !roll::has(roll, old, k)
+        && any_has(s, layout::ENTRY_SIZE, layout::DESTINATION, old)
 }
 
 // 15, and 17 and 18 of the entries that speak of a bus.
+#[tactic(auto, using(crate::proofs::Ways::by_15, crate::proofs::Ways::bus_stays, crate::proofs::Ways::by_17, crate::proofs::Ways::by_18, crate::proofs::Ways::past_18))]
 fn bus(t: &[u8], p: Sections, old: u8) -> u8
     requires { Placed t.now p }
     ensures { result ≡ refusal (bus_rules t.now old) }
 {
-    let first = p.buses;
-    let end = p.ioapics;
     let mut roll: [u8; 256] = [0; 256];
-    if buses::wrong(&mut roll, &t[first..end]) {
+    if buses::wrong(&mut roll, &t[p.buses..p.ioapics]) {
         return 15;
     }
     if roll::has(&roll, old, roll::BUS) {
@@ -112,63 +99,48 @@ fn bus(t: &[u8], p: Sections, old: u8) -> u8
     0
 }
 
-// Whether an interrupt of either side comes from a bus.
+// Whether an interrupt of either side comes from a bus. All are looked for, by `|`, here and below: where the edit is done there is none.
+#[tactic(auto, using(crate::proofs::Ways::comes_rows))]
 fn comes_from(t: &[u8], p: Sections, bus: u8) -> bool
     requires { Placed t.now p }
     ensures { result ≡ comes_from t.now bus }
 {
-    let start = p.interrupts;
-    let middle = p.locals;
-    let end = p.mappings;
-    let interrupts = &t[start..middle];
-    if any_has(interrupts, layout::ENTRY_SIZE, layout::SOURCE_BUS, bus) {
-        return true;
-    }
-    let locals = &t[middle..end];
-    any_has(locals, layout::ENTRY_SIZE, layout::SOURCE_BUS, bus)
+    let interrupts = &t[p.interrupts..p.locals];
+    let locals = &t[p.locals..p.mappings];
+    any_has(interrupts, layout::ENTRY_SIZE, layout::SOURCE_BUS, bus)
+        | any_has(locals, layout::ENTRY_SIZE, layout::SOURCE_BUS, bus)
 }
 
 // Whether an extended entry speaks of a bus, as its own or as a parent.
+#[tactic(auto, using(crate::proofs::Ways::speaks_rows))]
 fn speaks_of(t: &[u8], p: Sections, bus: u8) -> bool
     requires { Placed t.now p }
     ensures { result ≡ speaks_of t.now bus }
 {
-    let first = p.mappings;
-    let second = p.links;
-    let third = p.modifiers;
-    let end = p.others;
-    let mappings = &t[first..second];
-    if any_has(mappings, layout::MAPPING_SIZE, layout::EXTENDED_BUS, bus) {
-        return true;
-    }
-    let links = &t[second..third];
-    if any_has(links, layout::LINK_SIZE, layout::EXTENDED_BUS, bus) {
-        return true;
-    }
-    if any_has(links, layout::LINK_SIZE, layout::PARENT_BUS, bus) {
-        return true;
-    }
-    let modifiers = &t[third..end];
-    any_has(modifiers, layout::LINK_SIZE, layout::EXTENDED_BUS, bus)
+    let mappings = &t[p.mappings..p.links];
+    let links = &t[p.links..p.modifiers];
+    let modifiers = &t[p.modifiers..p.others];
+    any_has(mappings, layout::MAPPING_SIZE, layout::EXTENDED_BUS, bus)
+        | any_has(links, layout::LINK_SIZE, layout::EXTENDED_BUS, bus)
+        | any_has(links, layout::LINK_SIZE, layout::PARENT_BUS, bus)
+        | any_has(modifiers, layout::LINK_SIZE, layout::EXTENDED_BUS, bus)
 }
 
 // ---- Interrupts
 
 // 17, by a roll that has no more than what the entry names.
+#[tactic(auto, using(crate::proofs::Ways::entry_size_lem, crate::proofs::Ways::io_wrong_17, crate::proofs::Ways::io_right))]
 fn io_interrupt(t: &[u8], p: Sections, at: usize) -> u8
     requires { (Placed t.now p) × (at + entry_size ≤ length t.now) }
     ensures { result ≡ refusal (io_interrupt_rules t.now (part at (at + entry_size) t.now)) }
 {
-    let buses = p.buses;
-    let first = p.ioapics;
-    let end = p.interrupts;
     let e = &t[at..at + layout::ENTRY_SIZE];
     let mut roll: [u8; 256] = [0; 256];
     enroll_named(
         &mut roll,
         e,
-        &t[buses..first],
-        &t[first..end],
+        &t[p.buses..p.ioapics],
+        &t[p.ioapics..p.interrupts],
         layout::ENTRY_SIZE,
         roll::IO_APIC_MARK,
     );
@@ -178,19 +150,18 @@ fn io_interrupt(t: &[u8], p: Sections, at: usize) -> u8
     0
 }
 
+#[tactic(auto, using(crate::proofs::Ways::entry_size_lem, crate::proofs::Ways::local_wrong_17, crate::proofs::Ways::local_right))]
 fn local_interrupt(t: &[u8], p: Sections, at: usize) -> u8
     requires { (Placed t.now p) × (at + entry_size ≤ length t.now) }
     ensures { result ≡ refusal (local_interrupt_rules t.now (part at (at + entry_size) t.now)) }
 {
-    let buses = p.buses;
-    let end = p.ioapics;
     let e = &t[at..at + layout::ENTRY_SIZE];
     let mut roll: [u8; 256] = [0; 256];
     enroll_named(
         &mut roll,
         e,
-        &t[buses..end],
-        &t[layout::HEADER_SIZE..buses],
+        &t[p.buses..p.ioapics],
+        &t[layout::HEADER_SIZE..p.buses],
         layout::PROCESSOR_SIZE,
         roll::PROCESSOR_MARK,
     );
@@ -201,6 +172,7 @@ fn local_interrupt(t: &[u8], p: Sections, at: usize) -> u8
 }
 
 // The roll that an interrupt is judged by: its bus where that is listed, its destination where an entry has it, and 255.
+#[tactic(auto, unfolding(crate::specs::Amended::roll_for))]
 fn enroll_named(
     roll: &mut [u8; 256],
     e: &[u8],
@@ -221,6 +193,7 @@ fn enroll_named(
 // ---- Of any entries
 
 // Puts marks at an ID where some entry has it.
+#[tactic(auto, unfolding(crate::specs::Amended::enrolled_if))]
 fn enroll(roll: &mut [u8; 256], marks: u8, s: &[u8], size: usize, id: u8)
     requires { 1 < size }
     ensures { roll.new ≡ enrolled_if marks (rows size s.now) id roll.old }
@@ -235,12 +208,5 @@ fn any_has(s: &[u8], size: usize, k: usize, id: u8) -> bool
     requires { k < size }
     ensures { result ≡ any (has k id) (rows size s.now) }
 {
-    let mut at = 0;
-    while size <= s.len() - at {
-        if s[at + k] == id {
-            return true;
-        }
-        at += size;
-    }
-    false
+    s.chunks_exact(size).any(|e| e[k] == id)
 }

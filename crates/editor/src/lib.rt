@@ -67,14 +67,12 @@ fn test(t: &[u8], p: Sections, place: usize, stated: &[u8], wanted: &[u8]) -> u8
 }
 
 // Where the entry at a place stands: only processors have 20 bytes, and they are the first.
+#[tactic(auto, using(crate::proofs::Offsets::from_header, crate::proofs::Offsets::place_inside, crate::proofs::Offsets::place_of))]
 fn offset(t: &[u8], p: Sections, place: usize) -> usize
     requires { (Accepted t.now p) × (place < entry_count t.now) }
     ensures { result ≡ offset_of t.now place }
 {
-    let processors = (p.buses - layout::HEADER_SIZE) / layout::PROCESSOR_SIZE;
-    if place < processors {
-        return layout::HEADER_SIZE + layout::PROCESSOR_SIZE * place;
-    }
+    let processors = place.min((p.buses - layout::HEADER_SIZE) / layout::PROCESSOR_SIZE);
     layout::HEADER_SIZE
         + layout::PROCESSOR_SIZE * processors
         + layout::ENTRY_SIZE * (place - processors)
@@ -103,8 +101,8 @@ fn exchange(t: &mut [u8], p: Sections, place: usize, stated: &[u8], wanted: &[u8
 fn checksum(old: u8, stated: &[u8], wanted: &[u8]) -> u8
     ensures { result ≡ (old + sum256 stated.now + to_store (sum256 wanted.now)) % 256 }
 {
-    let without = std::num::wrapping_add_u8(old, sums::sum(stated));
-    std::num::wrapping_add_u8(without, sums::to_store(sums::sum(wanted)))
+    old.wrapping_add(sums::sum(stated))
+        .wrapping_add(sums::to_store(sums::sum(wanted)))
 }
 
 // An entry and the base checksum.

@@ -1,5 +1,6 @@
 -- The steps of the loops over rows, and what a chain has. Assumes nothing.
 use Prim.Native.Nat.{ℕ, zero, suc, ◌+◌, ◌-◌, ◌≤◌, ◌<◌}
+use Rattle.std.proofs.Common.{Some, None}
 use mathlib.Core.Path.{◌≡◌, refl, sym, ap, ◌∙◌}
 use mathlib.Core.Bool.{true, false, cond, ◌&&◌}
 use mathlib.Core.List.{List, []}
@@ -8,17 +9,19 @@ use native.Mathlib.Numerals.{add-one}
 use native.Mathlib.Omega.{arith}
 use lib.ListN.{length, get_or, set, length-set, replicate, length-replicate}
 use lib.Seq.{get_or-set_same, get_or-set_other}
-use lib.Dec.{eqb}
-use borrow.Author.Tests.{eq-eqb, ne_eqb, eqb-true, eqb-false}
-use Rattle.mps.specs.Layout.{book_head, book_row, machine_at, edition_at}
+use lib.Dec.{eqb, leb}
+use borrow.Author.Tests.{eq-eqb, ne_eqb, eqb-true, eqb-false, lt-leb, le-leb}
+use Rattle.mps.specs.Layout.{book_head, book_rows, book_row, machine_at, edition_at}
 use Rattle.mps.specs.Words.{last, keep, each}
 use Rattle.mps.specs.Book.{layout1, of_machine, latest, row_at, rows_at, editions_run}
 use Rattle.mps.specs.History.{is_edition}
-use Rattle.pages.specs.Pages.{row_place, rows_before, found_from, rows_most}
+use Rattle.pages.specs.Pages.{row_place, rows_before, found_from, found_in, rows_most}
 use Rattle.pages.proofs.Bytes.{rows_at_more}
 use Rattle.pages.proofs.Editions.{latest_append, found_here, found_next}
 use Rattle.laws.proofs.Tests.{whether}
 use Rattle.laws.proofs.Lists.{zeros_at}
+use Rattle.rows.specs.declared.Row.{Row}
+use Rattle.rows.specs.Fields.{fields_at, found_row}
 use Rattle.rows.specs.Chains.{chain_count, chain_of, chain_at, last_in, Linked}
 
 -- ---- The latest edition
@@ -26,79 +29,69 @@ use Rattle.rows.specs.Chains.{chain_count, chain_of, chain_at, last_in, Linked}
 -- One row more: it is the machine's, or it is not.
 module _ (m : ℕ) (s : List ℕ) (k : ℕ) where
   more :
-      latest m (rows_before layout1 s (suc k))
+      latest m (rows_before layout1 s (k + 1))
       ≡ cond (eqb (machine_at s (row_place layout1 k)) m) (edition_at s (row_place layout1 k)) (latest m (rows_before layout1 s k))
   unfolding row_at
   more =
-      rw (← add-one k)
-      (ap (latest m) (rows_at_more 2 s book_head k) ∙ latest_append m (rows_before layout1 s k) (row_at 2 s (row_place layout1 k)))
+      ap (latest m) (rows_at_more 2 s book_head k) ∙ latest_append m (rows_before layout1 s k) (row_at 2 s (row_place layout1 k))
 
-  latest_own : machine_at s (row_place layout1 k) ≡ m → latest m (rows_before layout1 s (suc k)) ≡ edition_at s (row_place layout1 k)
+  pub latest_own : machine_at s (row_place layout1 k) ≡ m → latest m (rows_before layout1 s (k + 1)) ≡ edition_at s (row_place layout1 k)
   latest_own e = more ∙ rw (eq-eqb _ _ e)
 
-  latest_other : (machine_at s (row_place layout1 k) ≡ m → ⊥) → latest m (rows_before layout1 s (suc k)) ≡ latest m (rows_before layout1 s k)
+  pub latest_other : (machine_at s (row_place layout1 k) ≡ m → ⊥) → latest m (rows_before layout1 s (k + 1)) ≡ latest m (rows_before layout1 s k)
   latest_other e = more ∙ rw (ne_eqb _ _ e)
 
--- What the loop keeps: the latest of the rows before.
-abbrev pub Latest : ℕ → List ℕ → ℕ → ℕ → ℕ → ℕ → Type 0
-Latest m s rows found at k = (k ≤ rows) × (at ≡ row_place layout1 k) × (found ≡ latest m (rows_before layout1 s k))
-
-module _ (m : ℕ) (s : List ℕ) (rows : ℕ) where
-  pub latest_first : Latest m s rows 0 book_head 0
-  unfolding latest of_machine last each keep rows_at
-  latest_first = (omega arith, omega arith, refl)
-
-  module _ (found at k : ℕ) (inv : Latest m s rows found at k) where
-    pub latest_done : rows ≤ k → found ≡ latest m (rows_before layout1 s rows)
-    latest_done h = let e : rows ≡ k = omega (arith, h, inv.0) in rw e inv.2
-
-    module _ (h : k < rows) where
-      pub latest_takes :
-          {f : ℕ} → machine_at s at ≡ m → f ≡ edition_at s at → Latest m s rows f (at + book_row 2) (k + 1)
-      latest_takes o e = (
-        omega arith,
-        omega (arith, inv.1),
-        rw (add-one k) ((rw inv.1 at e) ∙ sym (latest_own m s k (rw inv.1 at o))),
-      )
-
-      pub latest_keeps : (machine_at s at ≡ m → ⊥) → Latest m s rows found (at + book_row 2) (k + 1)
-      latest_keeps o = (
-        omega arith,
-        omega (arith, inv.1),
-        rw (add-one k) (inv.2 ∙ sym (latest_other m s k (rw inv.1 at o))),
-      )
+-- Of no rows.
+pub latest_none : (m : ℕ) (s : List ℕ) → latest m (rows_before layout1 s 0) ≡ 0
+unfolding latest of_machine last each keep rows_at
+latest_none m s = refl
 
 -- ---- Where an edition stands
 
-abbrev pub Finds : ℕ → ℕ → List ℕ → ℕ → ℕ → ℕ → Type 0
-Finds m e s rows at k =
-    (k ≤ rows) × (at ≡ row_place layout1 k) × (found_from 2 m e s at (rows - k) ≡ found_from 2 m e s book_head rows)
+-- Of the rows from k on the same is found as of all.
+module _ (m e : ℕ) (s : List ℕ) where
+  abbrev pub Finds : ℕ → Type 0
+  Finds k = found_from 2 m e s (row_place layout1 k) (book_rows s - k) ≡ found_in layout1 m e s
 
-module _ (m e : ℕ) (s : List ℕ) (rows : ℕ) where
-  pub finds_first : Finds m e s rows book_head 0
-  finds_first = (omega arith, omega arith, rw (sub-zero rows))
+  pub finds_first : Finds 0
+  unfolding found_in
+  finds_first = rw (sub-zero (book_rows s))
 
-  module _ (at k : ℕ) (inv : Finds m e s rows at k) where
-    pub finds_done : rows ≤ k → 0 ≡ found_from 2 m e s book_head rows
-    unfolding found_from
-    finds_done h = let z : rows - k ≡ 0 = omega arith in (rw z at inv.2)
+  module _ (k : ℕ) (inv : Finds k) where
+    pub finds_done : book_rows s ≤ k → None ≡ found_row m e s
+    unfolding found_from found_row
+    finds_done h = let z : book_rows s - k ≡ 0 = omega arith in rw (← inv, z)
 
-    module _ (h : k < rows) where
-      left : rows - k ≡ suc (rows - (k + 1))
+    module _ (h : k < book_rows s) where
+      left : book_rows s - k ≡ suc (book_rows s - (k + 1))
       left = omega arith
 
-      module _ {a b : ℕ} (o : a ≡ machine_at s at) (n : b ≡ edition_at s at) where
-        pub finds_stop : (eqb a m && eqb b e) ≡ true → at ≡ found_from 2 m e s book_head rows
-        unfolding is_edition row_at
-        finds_stop t = sym (found_here m e 2 s at (rows - (k + 1)) (rw (o, n) at t)) ∙ (rw left at inv.2)
+      module _ {r : Row} (o : r ≡ fields_at s (row_place layout1 k)) where
+        pub finds_stop : (eqb r.machine m && eqb r.edition e) ≡ true → Some r ≡ found_row m e s
+        unfolding is_edition row_at found_row
+        finds_stop t =
+            let at = row_place layout1 k in
+            rw (← inv, left, found_here m e 2 s at (book_rows s - (k + 1)) (rw o at t), o, ne_eqb at 0 (λ z. omega (arith, z)))
 
-        pub finds_next : (eqb a m && eqb b e) ≡ false → Finds m e s rows (at + book_row 2) (k + 1)
+        pub finds_next : (eqb r.machine m && eqb r.edition e) ≡ false → Finds (k + 1)
         unfolding is_edition row_at
-        finds_next f = (
-          omega arith,
-          omega (arith, inv.1),
-          sym (found_next m e 2 s at (rows - (k + 1)) (rw (o, n) at f)) ∙ (rw left at inv.2),
-        )
+        finds_next f =
+            let at : row_place layout1 (k + 1) ≡ row_place layout1 k + book_row 2 = omega arith in
+            rw at (sym (found_next m e 2 s (row_place layout1 k) (book_rows s - (k + 1)) (rw o at f)) ∙ (rw left at inv))
+
+-- What the row that is found tells of the place where it is found.
+module _ (m e : ℕ) (s : List ℕ) where
+  pub row_none : found_row m e s ≡ None → found_in layout1 m e s ≡ 0
+  unfolding found_row
+  row_none z =
+      whether (eqb (found_in layout1 m e s) 0) (λ t. eqb-true _ _ t) (λ f. let q = rw f at z in absurd (cc))
+
+  pub row_some : {r : Row} → found_row m e s ≡ Some r → (found_in layout1 m e s ≡ 0 → ⊥) × (r ≡ fields_at s (found_in layout1 m e s))
+  unfolding found_row
+  row_some z =
+      whether (eqb (found_in layout1 m e s) 0)
+      (λ t. let q = rw t at z in absurd (cc))
+      (λ f. let q = rw f at z in (eqb-false _ _ f, cc))
 
 -- ---- A chain
 
@@ -142,7 +135,7 @@ latest_chain m s (suc k) =
     whether (eqb (chain_at s k) (chain_of m))
     (λ t. rw (last_own s (chain_of m) k (eqb-true _ _ t)))
     (λ f. rw (last_other s (chain_of m) k (eqb-false _ _ f))
-    (latest_chain m s k ∙ sym (latest_other m s k (λ e. eqb-false _ _ f (ap chain_of e)))))
+    (latest_chain m s k ∙ sym (rw (add-one k) at (latest_other m s k (λ e. eqb-false _ _ f (ap chain_of e))))))
 
 -- ---- Along a chain
 
@@ -155,64 +148,68 @@ Along s before last m k =
     × (latest m (rows_before layout1 s k) ≡ latest m (rows_before layout1 s last))
 
 module _ (s before : List ℕ) (last m k : ℕ) (inv : Along s before last m k) where
-  pub along_none : k ≡ 0 → 0 ≡ latest m (rows_before layout1 s last)
-  unfolding latest of_machine last each keep rows_at
-  along_none e = rw e at inv.3
+  pub along_none : k ≤ 0 → 0 ≡ latest m (rows_before layout1 s last)
+  along_none h = let e : k ≡ 0 = omega arith in sym (latest_none m s) ∙ (rw e at inv.3)
 
-  module _ (j : ℕ) (e : k ≡ suc j) where
-    pub along_own : machine_at s (row_place layout1 j) ≡ m → edition_at s (row_place layout1 j) ≡ latest m (rows_before layout1 s last)
-    along_own o = sym (latest_own m s j o) ∙ (rw e at inv.3)
+  module _ (h : 0 < k) {r : Row} (is : r ≡ fields_at s (row_place layout1 (k - 1))) where
+    one : k ≡ suc (k - 1)
+    one = omega (arith, h)
 
-    link : get_or before j 0 ≡ last_in s (chain_of m) j
+    again : latest m (rows_before layout1 s (k - 1 + 1)) ≡ latest m (rows_before layout1 s last)
+    again = let e : k - 1 + 1 ≡ k = omega (arith, h) in rw e inv.3
+
+    pub along_own : r.machine ≡ m → r.edition ≡ latest m (rows_before layout1 s last)
+    along_own o = rw is (sym (latest_own m s (k - 1) (rw is at o)) ∙ again)
+
+    link : get_or before (k - 1) 0 ≡ last_in s (chain_of m) (k - 1)
     link =
-        inv.1 j (omega (arith, e, inv.0))
-        ∙ ap (λ (c : ℕ). last_in s c j) (last_chain s (chain_of m) j (rw e at inv.2))
+        inv.1 (k - 1) (omega (arith, h, inv.0))
+        ∙ ap (λ (c : ℕ). last_in s c (k - 1)) (last_chain s (chain_of m) (k - 1) (rw one at inv.2))
 
-    pub along_less : get_or before j 0 < k
-    along_less = omega (arith, e, link, last_below s (chain_of m) j)
+    pub along_less : get_or before (k - 1) 0 < k
+    along_less = omega (arith, h, link, last_below s (chain_of m) (k - 1))
 
-    pub along_next : (machine_at s (row_place layout1 j) ≡ m → ⊥) → Along s before last m (get_or before j 0)
+    pub along_next : (r.machine ≡ m → ⊥) → Along s before last m (get_or before (k - 1) 0)
     along_next o = (
       omega (arith, along_less, inv.0),
       inv.1,
-      rw link (last_again s (chain_of m) j),
-      rw link (latest_chain m s j ∙ sym (latest_other m s j o) ∙ (rw e at inv.3)),
+      rw link (last_again s (chain_of m) (k - 1)),
+      rw link (latest_chain m s (k - 1) ∙ sym (latest_other m s (k - 1) (rw is at o)) ∙ again),
     )
 
 -- ---- Editions that run
 
 -- What both loops keep: all editions run where those of the rows left do.
-abbrev pub Runs : List ℕ → ℕ → ℕ → ℕ → Type 0
-Runs s rows at k =
-    (k ≤ rows)
-    × (at ≡ row_place layout1 k)
-    × (editions_run (rows_before layout1 s k) (rows_at 2 s at (rows - k)) ≡ editions_run [] (rows_before layout1 s rows))
+abbrev pub Runs : List ℕ → ℕ → ℕ → Type 0
+Runs s rows k =
+    editions_run (rows_before layout1 s k) (rows_at 2 s (row_place layout1 k) (rows - k)) ≡ editions_run [] (rows_before layout1 s rows)
 
 module _ (s : List ℕ) (rows : ℕ) where
-  pub runs_first : Runs s rows book_head 0
+  pub runs_first : Runs s rows 0
   unfolding rows_at
-  runs_first = (omega arith, omega arith, rw (sub-zero rows))
+  runs_first = rw (sub-zero rows)
 
-  module _ (at k : ℕ) (inv : Runs s rows at k) where
+  module _ (k : ℕ) (inv : Runs s rows k) where
     pub runs_done : rows ≤ k → true ≡ editions_run [] (rows_before layout1 s rows)
     unfolding editions_run rows_at
-    runs_done h = let z : rows - k ≡ 0 = omega arith in rw z at inv.2
+    runs_done h = let z : rows - k ≡ 0 = omega arith in rw z at inv
 
-    module _ (h : k < rows) {m n e : ℕ} (o : m ≡ machine_at s at) (was : n ≡ latest m (rows_before layout1 s k))
-        (i : e ≡ edition_at s at) where
+    module _ (h : k < rows) {r : Row} (o : r ≡ fields_at s (row_place layout1 k)) {n : ℕ} (was : n ≡ latest r.machine (rows_before layout1 s k)) where
       step :
-          editions_run (rows_before layout1 s k) (rows_at 2 s at (rows - k))
-          ≡ (eqb e (n + 1) && editions_run (rows_before layout1 s (k + 1)) (rows_at 2 s (at + book_row 2) (rows - (k + 1))))
+          editions_run (rows_before layout1 s k) (rows_at 2 s (row_place layout1 k) (rows - k))
+          ≡ (eqb r.edition (n + 1)
+          && editions_run (rows_before layout1 s (k + 1)) (rows_at 2 s (row_place layout1 (k + 1)) (rows - (k + 1))))
       unfolding editions_run rows_at row_at
       step =
           let left : rows - k ≡ suc (rows - (k + 1)) = omega arith in
-          rw (left, i, was, o, rows_at_more 2 s book_head k, inv.1)
+          let at : row_place layout1 (k + 1) ≡ row_place layout1 k + book_row 2 = omega arith in
+          rw (left, at, was, o, rows_at_more 2 s book_head k)
 
-      pub runs_stop : (e ≡ n + 1 → ⊥) → false ≡ editions_run [] (rows_before layout1 s rows)
-      runs_stop g = sym (rw (ne_eqb e (n + 1) g) at step) ∙ inv.2
+      pub runs_stop : (r.edition ≡ n + 1 → ⊥) → false ≡ editions_run [] (rows_before layout1 s rows)
+      runs_stop g = sym (rw (ne_eqb r.edition (n + 1) g) at step) ∙ inv
 
-      pub runs_next : e ≡ n + 1 → Runs s rows (at + book_row 2) (k + 1)
-      runs_next g = (omega arith, omega (arith, inv.1), sym (rw (eq-eqb e (n + 1) g) at step) ∙ inv.2)
+      pub runs_next : r.edition ≡ n + 1 → Runs s rows (k + 1)
+      runs_next g = sym (rw (eq-eqb r.edition (n + 1) g) at step) ∙ inv
 
 -- The chains of the rows before.
 abbrev pub Chains : List ℕ → List ℕ → List ℕ → ℕ → Type 0
@@ -231,10 +228,13 @@ module _ (s : List ℕ) where
   )
 
   module _ (last before : List ℕ) (k : ℕ) (inv : Chains s last before k) where
-    module _ (h : k < rows_most) (at m chain : ℕ) (p : at ≡ row_place layout1 k) (o : m ≡ machine_at s at) (is : chain ≡ chain_of m)
+    module _ (h : k < rows_most) {r : Row} (o : r ≡ fields_at s (row_place layout1 k)) {chain : ℕ} (is : chain ≡ chain_of r.machine)
         (low : chain < chain_count) where
+      abbrev m : ℕ
+      m = r.machine
+
       own : chain_at s k ≡ chain
-      own = sym (rw p at (is ∙ ap chain_of o))
+      own = sym (rw o at is)
 
       here : get_or last chain 0 ≡ last_in s chain k
       here = inv.0.1 chain low
@@ -281,3 +281,11 @@ module _ (s : List ℕ) where
         length-set before k (get_or last chain 0) ∙ inv.1,
         links,
       )
+
+-- ---- How many rows a good book has at most
+
+pub many_rows : (rows : ℕ) → rows_most < rows → leb rows rows_most ≡ false
+many_rows rows h = lt-leb rows rows_most h
+
+pub no_more_rows : (rows : ℕ) → rows ≤ rows_most → leb rows rows_most ≡ true
+no_more_rows rows h = le-leb rows rows_most h

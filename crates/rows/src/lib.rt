@@ -1,9 +1,10 @@
 // The rows of a book, of any bytes: the latest edition of a machine, where the row of an edition stands, and whether the
 // editions of each machine run from 1 without a gap.
 //
-// Promised of any bytes, a byte past the end reading as 0: `latest` answers `latest` of the rows, `find` answers `found_in`,
-// and `run` whether `editions_run`, where there are at most 630 rows, a bound on those of a good book. The definitions stand in
-// mps's specs/Book.antt and in specs/Pages.antt of pages, and what a chain is in specs/Chains.antt.
+// Promised of any bytes, a byte past the end reading as 0: `read` answers the fields of a row, `latest` answers `latest` of the
+// rows, `find` answers the row that stands at `found_in`, and `run` whether `editions_run`, where there are at most 630 rows, a
+// bound on those of a good book. The definitions stand in mps's specs/Book.antt, in specs/Pages.antt of pages and in
+// specs/Fields.antt, and what a chain is in specs/Chains.antt.
 //
 // Few rows are compared, each with all before it, which takes less time than to clear the arrays of the chains. More rows are
 // gone over once and linked in 4,096 chains, the last one first, so that the row before of a machine is found without going
@@ -14,8 +15,9 @@
 ghost use Rattle.std.specs.Prelude.{◌≤◌, ◌<◌, ◌≡◌, ◌&&◌, [], leb};
 ghost use Rattle.mps.specs.Layout.{book_rows};
 ghost use Rattle.mps.specs.Book.{latest as latest_of, layout1, rows_of, editions_run};
-ghost use Rattle.pages.specs.Pages.{rows_before, found_in, rows_most};
+ghost use Rattle.pages.specs.Pages.{row_place, rows_before, rows_most};
 ghost use Rattle.rows.specs.Chains.{chain_count, chain_of, last_in, Linked};
+ghost use Rattle.rows.specs.Fields.{fields_at, found_row};
 
 use mps::layout;
 
@@ -28,7 +30,31 @@ const FEW: u16 = 14;
 // A good book has no more rows: with its row a body takes at least 52 bytes.
 const ROWS_MOST: u16 = 630;
 
+// A row: whose edition it is, where its body begins in the book, and how many bytes that has.
+#[derive(Clone, Copy)]
+pub struct Row {
+    pub machine: u16,
+    pub edition: u16,
+    pub start: u16,
+    pub size: u16,
+}
+
+// The row behind so many.
+#[inline]
+pub fn read(s: &[u8], k: u16) -> Row
+    ensures { result ≡ fields_at s.now (row_place layout1 k) }
+{
+    let at = layout::BOOK_HEAD + k as usize * layout::BOOK_ROW;
+    Row {
+        machine: numbers::le16(s, at),
+        edition: numbers::le16(s, at + layout::BOOK_EDITION),
+        start: numbers::le16(s, at + layout::BOOK_START),
+        size: numbers::le16(s, at + layout::BOOK_SIZE),
+    }
+}
+
 // The latest edition of a machine, 0 where it has none.
+#[tactic(auto, unfolding(mps::specs::Book::rows_of))]
 pub fn latest(s: &[u8], machine: u16) -> u16
     ensures { result ≡ latest_of machine (rows_of layout1 s.now) }
 {
@@ -36,42 +62,36 @@ pub fn latest(s: &[u8], machine: u16) -> u16
 }
 
 // The latest edition of a machine among so many rows, 0 where it has none.
+#[tactic(auto, using(crate::proofs::Laws::latest_own, crate::proofs::Laws::latest_other, crate::proofs::Laws::latest_none))]
 fn latest_of(s: &[u8], rows: u16, machine: u16) -> u16
     ensures { result ≡ latest_of machine (rows_before layout1 s.now rows) }
 {
     let mut found = 0;
-    let mut at = layout::BOOK_HEAD;
-    let mut k = 0;
-    while k < rows {
-        if numbers::le16(s, at) == machine {
-            found = numbers::le16(s, at + layout::BOOK_EDITION);
+    for k in 0..rows {
+        let row = read(s, k);
+        if row.machine == machine {
+            found = row.edition;
         }
-        at += layout::BOOK_ROW;
-        k += 1;
     }
     found
 }
 
-// Where the row of an edition begins, 0 where there is none.
-pub fn find(s: &[u8], machine: u16, edition: u16) -> usize
-    ensures { result ≡ found_in layout1 machine edition s.now }
+// The row of an edition, where there is one.
+#[tactic(auto, using(crate::proofs::Laws::finds_first, crate::proofs::Laws::finds_done, crate::proofs::Laws::finds_stop, crate::proofs::Laws::finds_next))]
+pub fn find(s: &[u8], machine: u16, edition: u16) -> Option<Row>
+    ensures { result ≡ found_row machine edition s.now }
 {
-    let rows = numbers::le16(s, layout::BOOK_COUNT);
-    let mut at = layout::BOOK_HEAD;
-    let mut k = 0;
-    while k < rows {
-        if (numbers::le16(s, at) == machine)
-            & (numbers::le16(s, at + layout::BOOK_EDITION) == edition)
-        {
-            return at;
+    for k in 0..numbers::le16(s, layout::BOOK_COUNT) {
+        let row = read(s, k);
+        if (row.machine == machine) & (row.edition == edition) {
+            return Some(row);
         }
-        at += layout::BOOK_ROW;
-        k += 1;
     }
-    0
+    None
 }
 
 // Whether there are at most 630 rows, and the editions of each machine run.
+#[tactic(auto, using(crate::proofs::Laws::many_rows, crate::proofs::Laws::no_more_rows), unfolding(mps::specs::Book::rows_of))]
 pub fn run(s: &[u8]) -> bool
     ensures { result ≡ (leb (book_rows s.now) rows_most && editions_run [] (rows_of layout1 s.now)) }
 {
@@ -86,43 +106,35 @@ pub fn run(s: &[u8]) -> bool
 }
 
 // Whether the editions of each machine run in so many rows, each row compared with all before it.
+#[tactic(auto, using(crate::proofs::Laws::runs_first, crate::proofs::Laws::runs_done, crate::proofs::Laws::runs_stop, crate::proofs::Laws::runs_next))]
 fn few(s: &[u8], rows: u16) -> bool
     ensures { result ≡ editions_run [] (rows_before layout1 s.now rows) }
 {
-    let mut at = layout::BOOK_HEAD;
-    let mut k = 0;
-    while k < rows {
-        let machine = numbers::le16(s, at);
-        let edition = numbers::le16(s, at + layout::BOOK_EDITION) as usize;
-        if edition != latest_of(s, k, machine) as usize + 1 {
+    for k in 0..rows {
+        let row = read(s, k);
+        if row.edition as usize != latest_of(s, k, row.machine) as usize + 1 {
             return false;
         }
-        at += layout::BOOK_ROW;
-        k += 1;
     }
     true
 }
 
 // The same by chains.
+#[tactic(auto, using(crate::proofs::Laws::runs_done))]
 fn chains(s: &[u8], rows: u16) -> bool
     requires { rows ≤ rows_most }
     ensures { result ≡ editions_run [] (rows_before layout1 s.now rows) }
 {
     let mut last: [u16; CHAINS] = [0; CHAINS];
     let mut before: [u16; ROWS_MOST as usize] = [0; ROWS_MOST as usize];
-    let mut at = layout::BOOK_HEAD;
-    let mut k = 0;
-    while k < rows {
-        let machine = numbers::le16(s, at);
-        let chain = chain_of(machine);
-        let edition = numbers::le16(s, at + layout::BOOK_EDITION) as usize;
-        if edition != chained(s, &before, last[chain], machine) as usize + 1 {
+    for k in 0..rows {
+        let row = read(s, k);
+        let chain = chain_of(row.machine);
+        if row.edition as usize != chained(s, &before, last[chain], row.machine) as usize + 1 {
             return false;
         }
         before[k as usize] = last[chain];
-        k += 1;
-        last[chain] = k;
-        at += layout::BOOK_ROW;
+        last[chain] = k + 1;
     }
     true
 }
@@ -134,17 +146,18 @@ fn chain_of(machine: u16) -> usize
 }
 
 // The latest edition of a machine among the rows up to `last`, a row of its chain. A row is told by its number from 1 on.
+#[tactic(auto, using(crate::proofs::Laws::along_none, crate::proofs::Laws::along_own, crate::proofs::Laws::along_less, crate::proofs::Laws::along_next))]
 fn chained(s: &[u8], before: &[u16; ROWS_MOST as usize], last: u16, machine: u16) -> u16
     requires { (last ≤ rows_most) × Linked s.now before.now last × (last_in s.now (chain_of machine) last ≡ last) }
     ensures { result ≡ latest_of machine (rows_before layout1 s.now last) }
 {
-    let mut k = last as usize;
+    let mut k = last;
     while 0 < k {
-        let place = layout::BOOK_HEAD + (k - 1) * layout::BOOK_ROW;
-        if numbers::le16(s, place) == machine {
-            return numbers::le16(s, place + layout::BOOK_EDITION);
+        let passed = read(s, k - 1);
+        if passed.machine == machine {
+            return passed.edition;
         }
-        k = before[k - 1] as usize;
+        k = before[k as usize - 1];
     }
     0
 }

@@ -1,11 +1,10 @@
 -- The ways out of a save and of a restore: what has been tested and stored there, and the answer. Assumes nothing.
-use Rattle.std.proofs.Common.{◌≡◌, ℕ, zero, suc, ◌+◌, ◌-◌, ◌≤◌, false, List, length, sym, refl, ◌∙◌, arith}
+use Rattle.std.proofs.Common.{Option, Some, None, ◌≡◌, ℕ, zero, suc, ◌+◌, ◌-◌, ◌≤◌, false, List, length, sym, refl, ◌∙◌, arith}
 use lib.Seq.{sets}
 use Rattle.mps.specs.Words.{among, each, part, first}
-use Rattle.mps.specs.Numbers.{le}
 use Rattle.mps.specs.Refusals.{refusal}
 use Rattle.mps.specs.Answers.{booked_of}
-use Rattle.mps.specs.Layout.{book_row, body_size, edition_most}
+use Rattle.mps.specs.Layout.{book_row, body_start, body_size, edition_most}
 use Rattle.mps.specs.Book.{layout1, body_rules, body_refusal, bodies_at, rows_of, good_book, bad_book}
 use Rattle.mps.specs.History.{book_rules, booked, edition_body, edition_rules}
 use Rattle.mps.specs.Saving.{Addition, grown_book, addition_rules, grown}
@@ -19,6 +18,9 @@ use Rattle.pages.specs.Pages.{found_in, Measured}
 use Rattle.pages.proofs.Bytes.{readable1}
 use Rattle.pages.proofs.Editions.{Tells, found_none, found_some, found_good}
 use Rattle.book.proofs.Answering.{booked_refused}
+use Rattle.rows.specs.declared.Row.{Row}
+use Rattle.rows.specs.Fields.{fields_at, found_row}
+use Rattle.rows.proofs.Laws.{row_none, row_some}
 use Rattle.saving.specs.Steps.{addition_number, grown_room}
 use Rattle.saving.proofs.Tests.{length_added, Fits, number_fits, number_sized, Grows, fits_grow}
 use Rattle.saving.proofs.Stores.{grown_book_lem}
@@ -129,75 +131,81 @@ module _
 -- ---- A restore
 
 module _
-    (s : List ℕ) (m old latest : ℕ) {rows size at : ℕ} (held : Measured layout1 s rows size) (e : at ≡ found_in layout1 m old s)
+    (s : List ℕ) (m old latest : ℕ) {rows size : ℕ} (held : Measured layout1 s rows size) {found : Option Row}
+    (e : found ≡ found_row m old s)
   where
     abbrev body : List ℕ
     body = edition_body m old (rows_of layout1 s)
 
     -- The book does not hold the edition.
-    pub restore_none : at ≡ 0 → Answers s (restore m old latest) (Refused 28) s
+    pub restore_none : found ≡ None → Answers s (restore m old latest) (Refused 28) s
     unfolding add_refusal ask_rules edition_rules bad_book
     restore_none z =
         refuses s (restore m old latest)
-        (refusal_go 27 _ (rw held.good) ∙ refusal_stop 28 _ (rw (found_none layout1 m old s (sym e ∙ z))))
+        (refusal_go 27 _ (rw held.good) ∙ refusal_stop 28 _ (rw (found_none layout1 m old s (row_none m old s (sym e ∙ z)))))
         (λ q. omega (arith, q))
 
-    module _ (some : at ≡ 0 → ⊥) where
+    module _ {r : Row} (some : found ≡ Some r) where
+      there : (found_in layout1 m old s ≡ 0 → ⊥) × (r ≡ fields_at s (found_in layout1 m old s))
+      there = row_some m old s (sym e ∙ some)
+
       restore_alone :
           add_refusal layout1 s (restore m old latest)
           ≡ refusal (addition_rules layout1 s (addition layout1 s (restore m old latest)))
       unfolding add_refusal ask_rules edition_rules bad_book
       restore_alone =
-          refusal_go 27 _ (rw held.good) ∙ refusal_go 28 _ (rw (found_some layout1 m old s (λ z. some (e ∙ z))))
+          refusal_go 27 _ (rw held.good) ∙ refusal_go 28 _ (rw (found_some layout1 m old s there.0))
 
-      tells : Tells m old 2 s (bodies_at 2 (length (rows_of layout1 s))) (rows_of layout1 s) size at
-      tells = rw (held.ends, e) (found_good layout1 m old s readable1 held.good (λ z. some (e ∙ z)))
+      tells : Tells m old 2 s (bodies_at 2 (length (rows_of layout1 s))) (rows_of layout1 s) size (found_in layout1 m old s)
+      tells = rw held.ends (found_good layout1 m old s readable1 held.good there.0)
 
       -- Where the old body stands, and how many bytes it has.
-      module _ {start more : ℕ} (p : start ≡ le 2 s (at + 4)) (q : more ≡ le 2 s (at + 6)) where
-        sized : more ≡ body_size 2 s at
-        sized = let last : at + 4 + 2 ≡ at + 6 = omega arith in rw last q
+      begins : r.start ≡ body_start 2 s (found_in layout1 m old s)
+      begins = rw there.1
 
-        pub restore_stands : start + more ≤ size
-        restore_stands = omega (arith, p, sized, tells.ends)
+      sized : r.size ≡ body_size 2 s (found_in layout1 m old s)
+      sized = rw there.1
 
-        long : more ≡ length body
-        long = sized ∙ tells.size
+      pub restore_stands : r.start + r.size ≤ size
+      restore_stands = omega (arith, begins, sized, tells.ends)
 
-        module _ {n : ℕ} (k : n ≡ addition_number s m latest more) where
-          known : n ≡ addition_number s m latest (length body)
-          known = rw long at k
+      long : r.size ≡ length body
+      long = sized ∙ tells.size
 
-          pub restore_late : (n ≡ 0 → ⊥) → Answers s (restore m old latest) (Refused n) s
-          unfolding addition
-          restore_late z = late s (restore m old latest) restore_alone known z
+      module _ {n : ℕ} (k : n ≡ addition_number s m latest r.size) where
+        known : n ≡ addition_number s m latest (length body)
+        known = rw long at k
 
-          pub restore_next : n ≡ 0 → latest ≡ edition_most → ⊥
-          unfolding addition
-          restore_next z = (fits s (restore m old latest) restore_alone known z).next
+        pub restore_late : (n ≡ 0 → ⊥) → Answers s (restore m old latest) (Refused n) s
+        unfolding addition
+        restore_late z = late s (restore m old latest) restore_alone known z
 
-          -- The old body has been raised, to one row behind the end.
-          module _
-              (none : n ≡ 0) {u : List ℕ} (w : u ≡ sets s (start + (size + book_row 2 - start)) (part start (start + more) s))
-            where
-              copied : u ≡ sets s (size + book_row 2) body
-              copied =
-                  let place : start + (size + book_row 2 - start) ≡ size + book_row 2 = omega (arith, restore_stands) in
-                  let stands : part start (start + more) s ≡ body = rw (p, sized) tells.stands in
-                  w ∙ rw (place, stands)
+        pub restore_next : n ≡ 0 → latest ≡ edition_most → ⊥
+        unfolding addition
+        restore_next z = (fits s (restore m old latest) restore_alone known z).next
 
-              pub restore_grows : Grows rows size more u
-              unfolding addition
-              restore_grows =
-                  rw long
-                  (fits_grow s (addition layout1 s (restore m old latest)) rows size held
-                  (fits s (restore m old latest) restore_alone known none) (size + book_row 2) body copied)
+        -- The old body has been raised, to one row behind the end.
+        module _
+            (none : n ≡ 0) {u : List ℕ} (w : u ≡ sets s (r.start + (size + book_row 2 - r.start)) (part r.start (r.start + r.size) s))
+          where
+            copied : u ≡ sets s (size + book_row 2) body
+            copied =
+                let place : r.start + (size + book_row 2 - r.start) ≡ size + book_row 2 = omega (arith, restore_stands) in
+                let stands : part r.start (r.start + r.size) s ≡ body = rw (begins, sized) tells.stands in
+                w ∙ rw (place, stands)
 
-              pub restore_done :
-                  {r : Booked} {v : List ℕ} → (r ≡ Book (rows + 1) (size + book_row 2 + more))
-                  × (v ≡ grown_room u rows size m (latest + 1) more)
-                  → Answers s (restore m old latest) r v
-              unfolding addition
-              restore_done g =
-                  done s (restore m old latest) restore_alone known rows size held none copied
-                  (rw long at g.0) (rw long at g.1)
+            pub restore_grows : Grows rows size r.size u
+            unfolding addition
+            restore_grows =
+                rw long
+                (fits_grow s (addition layout1 s (restore m old latest)) rows size held
+                (fits s (restore m old latest) restore_alone known none) (size + book_row 2) body copied)
+
+            pub restore_done :
+                {told : Booked} {v : List ℕ} → (told ≡ Book (rows + 1) (size + book_row 2 + r.size))
+                × (v ≡ grown_room u rows size m (latest + 1) r.size)
+                → Answers s (restore m old latest) told v
+            unfolding addition
+            restore_done g =
+                done s (restore m old latest) restore_alone known rows size held none copied
+                (rw long at g.0) (rw long at g.1)

@@ -18,6 +18,7 @@ ghost use Rattle.pages.specs.Pages.{Measured, moved_rows};
 ghost use Rattle.saving.specs.Steps.{addition_number, row_bytes, way_made, grown_room};
 
 use mps::{Booked, layout};
+use rows::Row;
 
 // A table as the next edition of a machine. `began` is the edition that its author began from, 0 for a new machine.
 pub fn save(room: &mut [u8], machine: u16, began: u16, body: &[u8]) -> Booked
@@ -31,6 +32,7 @@ pub fn save(room: &mut [u8], machine: u16, began: u16, body: &[u8]) -> Booked
     }
 }
 
+#[tactic(auto, using(crate::proofs::Tests::held_within, crate::proofs::Laws::save_next, crate::proofs::Laws::save_grows))]
 fn save_in(
     room: &mut [u8],
     rows: usize,
@@ -67,6 +69,7 @@ pub fn restore(room: &mut [u8], machine: u16, edition: u16, latest: u16) -> Book
     }
 }
 
+#[tactic(auto, using(crate::proofs::Tests::held_within, crate::proofs::Laws::restore_stands, crate::proofs::Laws::restore_next, crate::proofs::Laws::restore_grows))]
 fn restore_in(
     room: &mut [u8],
     rows: usize,
@@ -79,12 +82,11 @@ fn restore_in(
     ensures value { result ≡ added layout1 room.old (restore_ask machine edition latest) }
     ensures room_after { room.new ≡ add_left layout1 room.old (restore_ask machine edition latest) }
 {
-    let at = rows::find(room, machine, edition);
-    if at == 0 {
+    let Some(row) = rows::find(room, machine, edition) else {
         return Booked::Refused(28);
-    }
-    let start = numbers::le16(room, at + layout::BOOK_START) as usize;
-    let more = numbers::le16(room, at + layout::BOOK_SIZE) as usize;
+    };
+    let start = row.start as usize;
+    let more = row.size as usize;
     let number = test(room, size, machine, latest, more);
     if number != 0 {
         return Booked::Refused(number);
@@ -94,6 +96,7 @@ fn restore_in(
 }
 
 // 28 and 29, for a body of so many bytes.
+#[tactic(auto, using(crate::proofs::Tests::tested_28, crate::proofs::Tests::tested_last, crate::proofs::Tests::tested_full, crate::proofs::Tests::tested_fits))]
 fn test(room: &[u8], size: usize, machine: u16, began: u16, more: usize) -> u8
     requires { (size ≡ length (book_of layout1 (rows_of layout1 room.now))) × (size ≤ book_most) × (more < 2 ^ 63) }
     ensures { result ≡ addition_number room.now machine began more }
@@ -112,6 +115,7 @@ fn test(room: &[u8], size: usize, machine: u16, began: u16, more: usize) -> u8
 }
 
 // The book with one row more, for the body of so many bytes that stands one row behind its end.
+#[tactic(auto, using(crate::proofs::Stores::room_grown))]
 fn grow(
     room: &mut [u8],
     rows: usize,
@@ -126,14 +130,13 @@ fn grow(
 {
     make_way(room, rows, size);
     let start = size + layout::BOOK_ROW;
-    put_row(
-        room,
-        layout::BOOK_HEAD + rows * layout::BOOK_ROW,
-        machine,
-        edition,
-        start as u16,
-        more as u16,
-    );
+    let row = Row {
+        machine: machine,
+        edition: edition,
+        start: start as u16,
+        size: more as u16,
+    };
+    put_row(room, layout::BOOK_HEAD + rows * layout::BOOK_ROW, row);
     numbers::put16(room, layout::BOOK_COUNT, rows as u16 + 1);
     Booked::Book {
         rows: rows + 1,
@@ -141,18 +144,20 @@ fn grow(
     }
 }
 
-// The row of a body of so many bytes that begins at `start`.
-fn put_row(room: &mut [u8], at: usize, machine: u16, edition: u16, start: u16, more: u16)
+// A row, put at `at`.
+#[tactic(auto, using(crate::proofs::Stores::row_put))]
+fn put_row(room: &mut [u8], at: usize, row: Row)
     requires { at ≤ book_most }
-    ensures { room.new ≡ sets room.old at (row_bytes machine edition start more) }
+    ensures { room.new ≡ sets room.old at (row_bytes row.machine row.edition row.start row.size) }
 {
-    numbers::put16(room, at, machine);
-    numbers::put16(room, at + layout::BOOK_EDITION, edition);
-    numbers::put16(room, at + layout::BOOK_START, start);
-    numbers::put16(room, at + layout::BOOK_SIZE, more);
+    numbers::put16(room, at, row.machine);
+    numbers::put16(room, at + layout::BOOK_EDITION, row.edition);
+    numbers::put16(room, at + layout::BOOK_START, row.start);
+    numbers::put16(room, at + layout::BOOK_SIZE, row.size);
 }
 
 // The bodies move up by one row, and the offsets of the rows with them.
+#[tactic(auto, using(crate::proofs::Stores::way_made_lem))]
 fn make_way(room: &mut [u8], rows: usize, size: usize)
     requires { (book_head + rows * book_row 2 ≤ book_most) × (book_head + rows * book_row 2 ≤ length room.old) }
     ensures { room.new ≡ way_made room.old rows size }
@@ -168,16 +173,9 @@ fn advance(room: &mut [u8], rows: usize)
     requires { (book_head + rows * book_row 2 ≤ book_most) × (book_head + rows * book_row 2 ≤ length room.old) }
     ensures { room.new ≡ sets room.old book_head (moved_rows 2 room.old book_head rows) }
 {
-    let mut at = layout::BOOK_HEAD;
-    let mut k = 0;
-    while k < rows {
-        let start = numbers::le16(room, at + layout::BOOK_START);
-        numbers::put16(
-            room,
-            at + layout::BOOK_START,
-            std::num::wrapping_add_u16(start, layout::BOOK_ROW as u16),
-        );
-        at += layout::BOOK_ROW;
-        k += 1;
+    for k in 0..rows {
+        let at = layout::BOOK_HEAD + k * layout::BOOK_ROW + layout::BOOK_START;
+        let start = numbers::le16(room, at);
+        numbers::put16(room, at, start.wrapping_add(layout::BOOK_ROW as u16));
     }
 }

@@ -1,22 +1,11 @@
 -- 19 where the room is too small for a row each; else all rows.
-use native.Mathlib.Omega.{arith}
-use borrow.Author.Rules.{rules}
-use Rattle.mps.specs.Book.{layout1}
 use Rattle.pages.proofs.Bytes.{readable1}
-use Rattle.book.proofs.Answering.{history_short, history_rows, history_put}
+use Rattle.book.proofs.Answering.{history_short, history_put}
 use Rattle.book.proofs.history_in.Goals as goal
-
-pub overflow_mul-rows : goal.overflow_mul-rows
-overflow_mul-rows c =
-    let few = history_rows layout1 c.args.s.now c.args.out.now c.requires.0 c.requires.1 in
-    search (rules, few)
 
 pub returns-then-out-rows : goal.returns-then-out-rows
 returns-then-out-rows c =
     let both = history_short _ _ _ c.requires.0 c.requires.1 c.if-out-rows.true in record { value = both.0; out_after = both.1 }
-
-pub list-requires : goal.list-requires
-list-requires c = (history_rows layout1 c.args.s.now c.args.out.now c.requires.0 c.requires.1, omega arith)
 
 pub returns : goal.returns
 returns c =

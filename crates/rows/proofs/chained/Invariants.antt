@@ -1,10 +1,8 @@
-use Prim.Native.Nat.{◌≤◌}
-use Rattle.pages.specs.Pages.{rows_most}
 use Rattle.rows.proofs.Laws.{Along}
 use Rattle.rows.proofs.chained.Given as goal
 
 abbrev pub invariant-loop-k : goal.invariant-loop-k
-invariant-loop-k l = (l.last ≤ rows_most) × Along l.s l.before l.last l.machine l.k
+invariant-loop-k l = Along l.s l.before l.last l.machine l.k
 
 abbrev pub decreases-loop-k : goal.decreases-loop-k
 decreases-loop-k l = l.k

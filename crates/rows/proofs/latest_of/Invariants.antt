@@ -1,9 +1,7 @@
-use Prim.Native.Nat.{◌-◌}
-use Rattle.rows.proofs.Laws.{Latest}
+use Rattle.std.proofs.Common.{◌≡◌}
+use Rattle.mps.specs.Book.{layout1, latest}
+use Rattle.pages.specs.Pages.{rows_before}
 use Rattle.rows.proofs.latest_of.Given as goal
 
 abbrev pub invariant-loop-k : goal.invariant-loop-k
-invariant-loop-k l = Latest l.machine l.s l.rows l.found l.at l.k
-
-abbrev pub decreases-loop-k : goal.decreases-loop-k
-decreases-loop-k l = l.rows - l.k
+invariant-loop-k l = l.found ≡ latest l.machine (rows_before layout1 l.s l.k)
