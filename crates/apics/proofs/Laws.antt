@@ -1,13 +1,13 @@
 -- Laws of the two calls: of one entry, of the pieces that a loop has left, and what they find in the words of the rules. Assumes
 -- nothing.
-use Prim.Native.Nat.{ℕ, ◌+◌, ◌*◌, ◌/◌, ◌%◌, ◌≤◌, ◌<◌}
+use Prim.Native.Nat.{ℕ, ◌+◌, ◌*◌, ◌/◌, ◌%◌, ◌<◌}
 use mathlib.Core.Path.{◌≡◌, refl, ap, sym, ◌∙◌}
 use mathlib.Core.Bool.{Bool, true, false, not, cond, ◌||◌, ◌&&◌, or_assoc, or_comm, and-true, and-false}
 use mathlib.Core.List.{List, [], ◌∷◌, ◌++◌}
 use native.Mathlib.Omega.{arith}
 use native.Mathlib.Nat.{div-one, zero-add}
 use lib.Dec.{eqb}
-use lib.ListN.{length, get_or, take, drop}
+use lib.ListN.{length, get_or}
 use borrow.Author.Tests.{eq-eqb, ne_eqb, eqb-true, eqb-false}
 use Rattle.mps.specs.Words.{bit, among, twice, any, every, keep, each}
 use Rattle.mps.specs.Numbers.{le}
@@ -16,20 +16,13 @@ use Rattle.mps.specs.Rules.{misplaced}
 use Rattle.mps.specs.Sections.{rows}
 use Rattle.laws.proofs.Tests.{eqb_comm, whether, same_test, or_parts}
 use Rattle.laws.proofs.Lists.{keep_in, keep_out, any_keep}
-use Rattle.laws.proofs.Rows.{rows_short, rows_more, row_byte}
+use Rattle.laws.proofs.Rows.{rows_short, rows_more}
 use Rattle.laws.proofs.Small.{Small, small_keep, below_each}
 use Rattle.roll.specs.Roll.{marked, with_marks, Shows}
 use Rattle.roll.specs.Calls.{Call, wrong_one, called}
 use Rattle.roll.proofs.Pieces.{call_next}
 use Rattle.roll.proofs.Laws.{claimed, called_wrong, called_all, called_other, any_shows}
 use Rattle.apics.specs.Apics.{processor_call, io_apic_call, wrong_processors_in}
-
--- ---- The flags of a row are those of the slice
-
-module _ (n : ℕ) (s : List ℕ) (at : ℕ) (f : 4 ≤ n) where
-  pub row_enabled : enabled (take n (drop at s)) ≡ eqb (get_or s (at + 3) 0 % 2) 1
-  unfolding bit
-  row_enabled = rw (row_byte n s at 3 (omega arith), div-one)
 
 -- The marks that an entry puts: one more beside its own where it is enabled.
 marks_by : (own more f : ℕ) → own + f % 2 * more ≡ cond (eqb (f % 2) 1) (own + more) own

@@ -59,7 +59,8 @@ fn wrong_io_apic(e: &[u8], roll: &[u8; 256]) -> bool
     (address == 0) | (address % layout::IO_APIC_STEP != 0)
 }
 
-// Whether one of the I/O APICs is wrong.
+// Whether one of the I/O APICs is wrong. (A function for this loop and that of the processors, and of buses, would be no plainer:
+// it takes a size, what is wrong and what is marked, and has nothing of its own but `put`.)
 #[tactic(auto, using(roll::proofs::Pieces::call_steps, crate::proofs::Laws::io_next))]
 pub fn wrong_io_apics(roll: &mut [u8; 256], s: &[u8]) -> bool
     ensures value { result ≡ (called io_apic_call roll.old (rows entry_size s.now)).wrong }

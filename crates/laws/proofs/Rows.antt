@@ -61,35 +61,6 @@ module _ (n : ℕ) (s : List ℕ) (at : ℕ) where
   pub row_byte : (k : ℕ) → k < n → get_or (take n (drop at s)) k 0 ≡ get_or s (at + k) 0
   row_byte k h = get_or-take n (drop at s) k 0 h ∙ get_or-drop at s k 0
 
--- A loop that looks for a row that passes a test: nothing whole is left, the row there passes, or it does not.
-module _ (p : Entry → Bool) (n : ℕ) (s : List ℕ) (at : ℕ) where
-  pub seek_done : at ≤ length s → length s - at < n → any p (rows n (drop at s)) ≡ false
-  unfolding any
-  seek_done h f = rw (rows_done n s at h f)
-
-  pub seek_stop : 0 < n → at ≤ length s → n ≤ length s - at → p (take n (drop at s)) ≡ true → any p (rows n (drop at s)) ≡ true
-  unfolding any
-  seek_stop z h f e = rw (rows_next n s at z h f, e)
-
-  pub seek_next : 0 < n → at ≤ length s → n ≤ length s - at → p (take n (drop at s)) ≡ false → any p (rows n (drop at s)) ≡ any p (rows n (drop (at + n) s))
-  unfolding any
-  seek_next z h f e = rw (rows_next n s at z h f, e)
-
--- What such a loop keeps: the rows left answer as all of them do. r is what it found of the row there.
-abbrev pub Seeks : (Entry → Bool) → ℕ → List ℕ → ℕ → Type 0
-Seeks p n s at = (any p (rows n (drop at s)) ≡ any p (rows n s)) × (at ≤ length s)
-
-module _ (p : Entry → Bool) (n : ℕ) (s : List ℕ) (at : ℕ) (inv : Seeks p n s at) where
-  pub seeks_done : length s - at < n → false ≡ any p (rows n s)
-  seeks_done f = sym (seek_done p n s at inv.1 f) ∙ inv.0
-
-  module _ (z : 0 < n) (f : n ≤ length s - at) {r : Bool} (e : r ≡ p (take n (drop at s))) where
-    pub seeks_stop : r ≡ true → true ≡ any p (rows n s)
-    seeks_stop t = sym (seek_stop p n s at z inv.1 f (sym e ∙ t)) ∙ inv.0
-
-    pub seeks_next : r ≡ false → Seeks p n s (at + n)
-    seeks_next t = (sym (seek_next p n s at z inv.1 f (sym e ∙ t)) ∙ inv.0, omega (arith, f, inv.1))
-
 -- A loop over the pieces that `chunks_exact` cuts off, a row each: those that are left are the rows of what is left.
 pub rows_cut : (n : ℕ) (e rest : List ℕ) → 0 < n → length e ≡ n → rows n (e ++ rest) ≡ e ∷ rows n rest
 rows_cut n [] rest z h = absurd (omega (arith, z, h))
@@ -117,11 +88,6 @@ module _ (p : Entry → Bool) (n : ℕ) (rest : List ℕ) where
 module _ (n : ℕ) (rest e left : List ℕ) (z : 0 < n) (h : length e ≡ n) (c : rest ≡ e ++ left) where
   pub rows_more : rows n rest ≡ e ∷ rows n left
   rows_more = rw (c, rows_cut n e left z h)
-
--- What a `for` over pieces steps by, for a function of the rows left; and the same of `any`.
-pub ruleset row_steps = (rows_short, rows_more)
-
-pub ruleset any_steps = (any_end, any_stop, any_next)
 
 -- `any` of `chunks_exact`, whose closure says of each piece what p says of a row.
 module _ {F : Type 0} {g : Mut F (Bor (List ℕ) × Unit {0}) Bool} (p : Entry → Bool) {n : ℕ} {f : F} (z : 0 < n)

@@ -64,7 +64,8 @@ fn goes_on(up: &[Option<u8>; 256], bus: u8, links: usize) -> bool
     true
 }
 
-// Takes away the links that are climbed from a bus, so many at most.
+// Takes away the links that are climbed from a bus, so many at most. (One climb for both, told what to do at each link, would be
+// longer than the two.)
 #[tactic(auto, using(crate::proofs::Laws::cleared_steps))]
 fn clear(up: &mut [Option<u8>; 256], bus: u8, links: usize)
     ensures { up.new ≡ cleared links up.old bus }

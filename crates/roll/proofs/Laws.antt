@@ -1,22 +1,20 @@
--- Laws of the roll: what is set at an ID after others were put, what a call over it finds in the words of the rules, and what
--- a loop meets at a place. Crates above need these and not how a roll is stored. Assumes nothing.
-use Prim.Native.Nat.{ℕ, suc, ◌+◌, ◌-◌, ◌≤◌, ◌<◌}
+-- Laws of the roll: what is set at an ID after others were put, and what a call over it finds in the words of the rules. Crates
+-- above need these, and those of Pieces.antt, and not how a roll is stored. Assumes nothing.
+use Prim.Native.Nat.{ℕ, suc, ◌<◌}
 use mathlib.Core.Path.{◌≡◌, refl, sym, ap, ◌∙◌}
 use mathlib.Core.Bool.{Bool, true, false, ◌||◌, ◌&&◌, true≢false, and-true, or-true, or-false, or_assoc, or_comm}
 use native.Mathlib.Omega.{arith}
 use mathlib.Core.List.{List, [], ◌∷◌}
 use lib.Bits.{bit_or}
 use lib.Dec.{eqb}
-use lib.ListN.{length, get_or, set, length-set, take, drop, replicate, length-replicate}
+use lib.ListN.{length, get_or, set, length-set, replicate, length-replicate}
 use lib.Seq.{get_or-set_same, get_or-set_other}
 use borrow.Author.Tests.{eq-eqb, eqb-true, eqb-false}
 use Rattle.mps.specs.Words.{bit, among, twice, any, each, keep}
 use Rattle.mps.specs.Layout.{Entry, id_of}
-use Rattle.mps.specs.Sections.{rows}
 use Rattle.laws.proofs.Tests.{eqb_comm, whether, or_swap}
 use Rattle.laws.proofs.Bits.{bit_none, bit_power, bit_or_lem}
 use Rattle.laws.proofs.Lists.{zeros_at, keep_nothing}
-use Rattle.laws.proofs.Rows.{rows_done, rows_next}
 use Rattle.laws.proofs.Small.{Bytes, Small, small_more, small_keep, below_each}
 use Rattle.roll.specs.Roll.{mark, marked, with_marks, Shows, enrolled, OnRoll}
 use Rattle.roll.specs.Calls.{Call, Called, wrong_one, called}
@@ -87,29 +85,6 @@ length_called c roll (e ∷ es) =
     whether (wrong_one c roll e)
     (λ w. rw (called_stop c roll e es w))
     (λ w. rw (called_next c roll e es w) (length_called c (with_marks (c.marks e) roll (id_of e)) es ∙ length_marks (c.marks e) roll (id_of e)))
-
--- The same over the rows of a slice, from a place on: no whole row is left, the row there is wrong, or it is not.
-module _ (c : Call) (roll : List ℕ) (n : ℕ) (s : List ℕ) (at : ℕ) (h : at ≤ length s) where
-  pub called_done : length s - at < n → called c roll (rows n (drop at s)) ≡ record { wrong = false; roll = roll }
-  unfolding called
-  called_done f = rw (rows_done n s at h f)
-
-  module _ (some : 0 < n) (f : n ≤ length s - at) where
-    pub called_stop_at :
-        wrong_one c roll (take n (drop at s)) ≡ true → called c roll (rows n (drop at s)) ≡ record { wrong = true; roll = roll }
-    called_stop_at w = rw (rows_next n s at some h f) (called_stop c roll (take n (drop at s)) (rows n (drop (at + n) s)) w)
-
-    pub called_next_at :
-        {next : List ℕ} → wrong_one c roll (take n (drop at s)) ≡ false
-        → next ≡ with_marks (c.marks (take n (drop at s))) roll (id_of (take n (drop at s)))
-        → called c roll (rows n (drop at s)) ≡ called c next (rows n (drop (at + n) s))
-    called_next_at w e =
-        rw (rows_next n s at some h f, e) (called_next c roll (take n (drop at s)) (rows n (drop (at + n) s)) w)
-
--- How a call has ended, as the two things that a contract says.
-pub called_is :
-    {x : Called} {w : Bool} {roll : List ℕ} → x ≡ record { wrong = w; roll = roll } → (w ≡ x.wrong) × (roll ≡ x.roll)
-called_is e = (sym (ap (λ (r : Called). r.wrong) e), sym (ap (λ (r : Called). r.roll) e))
 
 -- ---- What a call finds
 

@@ -18,12 +18,11 @@ use mps::layout;
 
 // Whether a range ends past 2^64. The sum wraps from 2^64 on, and a range that ends just there, where it wraps to 0, is
 // good.
-#[tactic(auto, using(crate::proofs::Laws::past_end_is))]
 fn past_end(base: u64, length: u64) -> bool
     ensures { result ≡ nat_lt space_end (base + length) }
 {
-    let end = std::num::wrapping_add_u64(base, length);
-    (end < base) & (0 < end)
+    let (end, wrapped) = base.overflowing_add(length);
+    wrapped & (0 < end)
 }
 
 #[tactic(auto, unfolding(crate::specs::Spaces::wrong_mapping_in))]
