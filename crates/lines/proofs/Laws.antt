@@ -4,15 +4,13 @@ use mathlib.Core.Bool.{Bool, true, false}
 use mathlib.Core.Path.{◌≡◌, ap, sym, ◌∙◌}
 use mathlib.Core.List.{List, [], ◌∷◌, ◌++◌, append_assoc}
 use native.Mathlib.Omega.{arith}
-use native.Mathlib.Nat.{add_assoc}
-use lib.ListN.{length, get_or, set, take, drop, length-append}
+use lib.ListN.{length, take, drop, length-append}
 use lib.Seq.{sets, take-append_seam}
 use lib.Dec.{leb}
 use borrow.Author.Tests.{leb-true, le-leb, lt-leb}
 use Rattle.mps.specs.Listing.{decimal, hex, line}
 use Rattle.laws.proofs.Tests.{same_test}
 use Rattle.laws.proofs.Stores.{sets_append, sets_at_start}
-use Rattle.slices.proofs.Laws.{sets_next}
 use Rattle.text.specs.Text.{ended}
 use Rattle.text.proofs.Laws.{length_ended, length_decimal_most, length_hex}
 use Rattle.lines.specs.Wrote.{Wrote}
@@ -88,10 +86,3 @@ has_room at n l h =
 
 pub has_none : (at n l : ℕ) → l < n → false ≡ leb (at + n) l
 has_none at n l h = sym (lt-leb (at + n) l (omega arith))
-
--- ---- Words, from byte i on
-
-pub word_next :
-    (t w : List ℕ) (at i : ℕ) → i < length w
-    → sets t (at + i) (drop i w) ≡ sets (set t (at + i) (get_or w i 0)) (at + (i + 1)) (drop (i + 1) w)
-word_next t w at i h = rw (← add_assoc at i 1) (sets_next t w (at + i) i h)

@@ -43,14 +43,11 @@ pub(super) fn entry(out: &mut [u8], at: usize, e: u64) -> usize
     ensures wrote { Wrote out.old at (extended_line (bytes 8 e)) out.new result }
     ensures upper_bound { result ≤ at + 64 }
 {
-    let kind = byte(e, 0);
-    if kind == layout::HIERARCHY_TYPE {
-        return tree(out, at, e);
+    match byte(e, 0) {
+        layout::HIERARCHY_TYPE => tree(out, at, e),
+        layout::MODIFIER_TYPE => modifier(out, at, e),
+        _ => skip(out, at, e),
     }
-    if kind == layout::MODIFIER_TYPE {
-        return modifier(out, at, e);
-    }
-    skip(out, at, e)
 }
 
 fn tree(out: &mut [u8], at: usize, e: u64) -> usize
@@ -62,7 +59,7 @@ fn tree(out: &mut [u8], at: usize, e: u64) -> usize
     let a = word(out, at, b"tree ");
     let b = field(out, a, e, layout::EXTENDED_BUS, SPACE);
     let c = field(out, b, e, layout::PARENT_BUS, SPACE);
-    decimal(out, c, (link % 2) as u32, LINE_END)
+    decimal(out, c, u32::from(link % 2), LINE_END)
 }
 
 fn modifier(out: &mut [u8], at: usize, e: u64) -> usize
@@ -73,7 +70,7 @@ fn modifier(out: &mut [u8], at: usize, e: u64) -> usize
     let link = byte(e, layout::LINK_BIT);
     let a = word(out, at, b"mod ");
     let b = field(out, a, e, layout::EXTENDED_BUS, SPACE);
-    let c = decimal(out, b, (link % 2) as u32, SPACE);
+    let c = decimal(out, b, u32::from(link % 2), SPACE);
     decimal(out, c, high(e), LINE_END)
 }
 

@@ -68,11 +68,7 @@ fn put_word(out: &mut [u8], at: usize, w: &[u8])
     requires { at + length w.now ≤ length out.old }
     ensures { out.new ≡ sets out.old at w.now }
 {
-    let mut i = 0;
-    while i < w.len() {
-        out[at + i] = w[i];
-        i += 1;
-    }
+    out[at..at + w.len()].copy_from_slice(w);
 }
 
 // Each of these stores one word and answers the place behind it.
@@ -104,8 +100,7 @@ fn field(out: &mut [u8], at: usize, e: u64, k: usize, last: u8) -> usize
     ensures wrote { Wrote out.old at (ended (decimal_of (get_or (bytes 8 e) k 0)) last) out.new result }
     ensures upper_bound { result ≤ at + 6 }
 {
-    let x = byte(e, k);
-    decimal(out, at, x as u32, last)
+    decimal(out, at, u32::from(byte(e, k)), last)
 }
 
 // "addresses eight upper-case hex digits"
@@ -114,7 +109,7 @@ fn hex8(out: &mut [u8], at: usize, x: u32, last: u8) -> usize
     ensures wrote { Wrote out.old at (ended (hex 8 x) last) out.new result }
     ensures upper_bound { result ≤ at + 9 }
 {
-    at + numerals::hexadecimal(out, at, x as u64, 8, last)
+    at + numerals::hexadecimal(out, at, u64::from(x), 8, last)
 }
 
 // "16 hex digits each", a mapping's base and length.
