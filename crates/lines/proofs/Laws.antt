@@ -59,9 +59,6 @@ next {t} {u} {x} {n} {at} {r} {q} {ws} w a b = record { wrote = rw (← joint w 
 pub has_fits : {r : Bool} (n : ℕ) (t : List ℕ) (at : ℕ) → r ≡ leb (at + n) (length t) → r ≡ true → at + n ≤ length t
 has_fits n t at e h = leb-true (at + n) (length t) (sym e ∙ h)
 
--- A line that was stored in the room: what the contract says of its length and of the room.
-pub direct : {t w u : List ℕ} {at r : ℕ} → Wrote t at w u r → (r - at ≡ length w) × (u ≡ sets t at w)
-direct a = (omega (arith, a.place), a.text)
 
 -- A line that was made in a buffer.
 buffer_holds : (z w : List ℕ) → length w ≤ length z → take (length w) (sets z 0 w) ≡ w

@@ -14,7 +14,7 @@ mod extended; // the lines of extended entries
 pub mod frame; // the lines that stand around them, or alone
 mod numerals; // the digits of numbers
 
-ghost use Rattle.std.specs.Prelude.{◌≡◌, [], ◌∷◌, ◌+◌, ◌≤◌, ◌<◌, length, get_or, take, leb};
+ghost use Rattle.std.specs.Prelude.{◌≡◌, ℕ, List, [], ◌∷◌, ◌+◌, ◌≤◌, ◌<◌, length, get_or, take, leb};
 ghost use Rattle.std.proofs.lemmas.List.Edits.{sets};
 ghost use Rattle.mps.specs.Numbers.{le, bytes};
 ghost use Rattle.mps.specs.Listing.{decimal as decimal_of, hex, unpadded};
@@ -45,6 +45,30 @@ fn moved(out: &mut [u8], at: usize, buffer: &[u8], n: usize) -> usize
 {
     slices::copy(out, at, &buffer[..n]);
     n
+}
+
+// A line that one call stores, and what it shows.
+trait Put {
+    ghost text: { Self → List ℕ };
+
+    // Stores it where the longest has room, and answers the place behind it.
+    fn put(&self, out: &mut [u8], at: usize) -> usize
+        requires { at + 64 ≤ length out.old }
+        ensures wrote { Wrote out.old at (text self.now) out.new result }
+        ensures upper_bound { result ≤ at + 64 };
+}
+
+// Stores a line as far as it has room; answers how many bytes it has.
+fn store<L: Put>(out: &mut [u8], at: usize, line: &L) -> usize
+    ensures value { result ≡ length (L.text line.now) }
+    ensures out_after { out.new ≡ sets out.old at (L.text line.now) }
+{
+    if has(out, at, LINE) {
+        return line.put(out, at) - at;
+    }
+    let mut buffer: [u8; 64] = [0; 64];
+    let n = line.put(&mut buffer, 0);
+    moved(out, at, &buffer, n)
 }
 
 // An entry that fits in a register is handed on in one: its bytes are in hand then, whatever is stored meanwhile.
