@@ -35,18 +35,21 @@ module _ (b : ℕ) (f : ℕ → ℕ) where
   digits_done zero n at t h = refl
   digits_done (suc m) n at t h = absurd (omega arith)
 
--- One decimal digit.
-pub decimal_next : (m n at : ℕ) (t : List ℕ) → 0 < m
-    → sets t at (digits 10 decimal_digit m n)
-    ≡ sets (set t (at + (m - 1)) (48 + n % 10)) at (digits 10 decimal_digit (m - 1) (n / 10))
-unfolding decimal_digit
-decimal_next m n at t h = digits_next 10 decimal_digit m n at t h
+-- The digits of a decimal number are the first of the hexadecimal ones.
+digit_small : (d : ℕ) → d < 10 → hex_digit d ≡ decimal_digit d
+unfolding hex_digit decimal_digit
+digit_small d h = rw (lt-ltb d 10 h)
+
+decimal_digits : (k n : ℕ) → digits 10 hex_digit k n ≡ digits 10 decimal_digit k n
+unfolding digits
+decimal_digits zero n = refl
+decimal_digits (suc k) n = rw (decimal_digits k (n / 10), digit_small (n % 10) (omega arith))
 
 -- ---- Numbers and the byte behind them
 
-pub decimal_is : (k n : ℕ) → k ≡ decimal_width n → digits 10 decimal_digit k n ≡ decimal n
+pub decimal_is : (k n : ℕ) → k ≡ decimal_width n → digits 10 hex_digit k n ≡ decimal n
 unfolding decimal
-decimal_is k n e = rw e
+decimal_is k n e = decimal_digits k n ∙ rw e
 
 pub hex_is : (k n : ℕ) → digits 16 hex_digit k n ≡ hex k n
 unfolding hex

@@ -4,15 +4,13 @@ use mathlib.Core.Bool.{Bool, true, false}
 use mathlib.Core.Path.{◌≡◌, ap, sym, ◌∙◌}
 use mathlib.Core.List.{List, [], ◌∷◌, ◌++◌, append_assoc}
 use native.Mathlib.Omega.{arith}
-use native.Mathlib.Nat.{add_assoc}
-use lib.ListN.{length, get_or, set, take, drop, length-append}
+use lib.ListN.{length, take, drop, length-append}
 use lib.Seq.{sets, take-append_seam}
 use lib.Dec.{leb}
 use borrow.Author.Tests.{leb-true, le-leb, lt-leb}
 use Rattle.mps.specs.Listing.{decimal, hex, line}
 use Rattle.laws.proofs.Tests.{same_test}
 use Rattle.laws.proofs.Stores.{sets_append, sets_at_start}
-use Rattle.slices.proofs.Laws.{sets_next}
 use Rattle.text.specs.Text.{ended}
 use Rattle.text.proofs.Laws.{length_ended, length_decimal_most, length_hex}
 use Rattle.lines.specs.Wrote.{Wrote}
@@ -61,9 +59,6 @@ next {t} {u} {x} {n} {at} {r} {q} {ws} w a b = record { wrote = rw (← joint w 
 pub has_fits : {r : Bool} (n : ℕ) (t : List ℕ) (at : ℕ) → r ≡ leb (at + n) (length t) → r ≡ true → at + n ≤ length t
 has_fits n t at e h = leb-true (at + n) (length t) (sym e ∙ h)
 
--- A line that was stored in the room: what the contract says of its length and of the room.
-pub direct : {t w u : List ℕ} {at r : ℕ} → Wrote t at w u r → (r - at ≡ length w) × (u ≡ sets t at w)
-direct a = (omega (arith, a.place), a.text)
 
 -- A line that was made in a buffer.
 buffer_holds : (z w : List ℕ) → length w ≤ length z → take (length w) (sets z 0 w) ≡ w
@@ -88,10 +83,3 @@ has_room at n l h =
 
 pub has_none : (at n l : ℕ) → l < n → false ≡ leb (at + n) l
 has_none at n l h = sym (lt-leb (at + n) l (omega arith))
-
--- ---- Words, from byte i on
-
-pub word_next :
-    (t w : List ℕ) (at i : ℕ) → i < length w
-    → sets t (at + i) (drop i w) ≡ sets (set t (at + i) (get_or w i 0)) (at + (i + 1)) (drop (i + 1) w)
-word_next t w at i h = rw (← add_assoc at i 1) (sets_next t w (at + i) i h)

@@ -19,22 +19,19 @@ pub(super) fn entry(out: &mut [u8], at: usize, e: u64) -> usize
     ensures wrote { Wrote out.old at (base_line (bytes 8 e)) out.new result }
     ensures upper_bound { result ≤ at + 64 }
 {
-    let kind = byte(e, 0);
-    if kind == layout::PROCESSOR_TYPE {
-        return cpu(out, at, e);
+    match byte(e, 0) {
+        layout::PROCESSOR_TYPE => cpu(out, at, e),
+        layout::BUS_TYPE => bus(out, at, e),
+        layout::IO_APIC_TYPE => io_apic(out, at, e),
+        layout::IO_INTERRUPT_TYPE => {
+            let a = word(out, at, b"int");
+            interrupt(out, a, e)
+        }
+        _ => {
+            let a = word(out, at, b"lint");
+            interrupt(out, a, e)
+        }
     }
-    if kind == layout::BUS_TYPE {
-        return bus(out, at, e);
-    }
-    if kind == layout::IO_APIC_TYPE {
-        return io_apic(out, at, e);
-    }
-    if kind == layout::IO_INTERRUPT_TYPE {
-        let a = word(out, at, b"int");
-        return interrupt(out, a, e);
-    }
-    let a = word(out, at, b"lint");
-    interrupt(out, a, e)
 }
 
 fn cpu(out: &mut [u8], at: usize, e: u64) -> usize
@@ -113,8 +110,8 @@ fn signal(out: &mut [u8], at: usize, e: u64) -> usize
     ensures upper_bound { result ≤ at + 24 }
 {
     let flags = byte(e, layout::INTERRUPT_FLAGS);
-    let a = decimal(out, at, (flags % 4) as u32, SPACE);
-    let b = decimal(out, a, (flags / 4 % 4) as u32, SPACE);
+    let a = decimal(out, at, u32::from(flags % 4), SPACE);
+    let b = decimal(out, a, u32::from(flags / 4 % 4), SPACE);
     let c = field(out, b, e, layout::DESTINATION, SPACE);
     field(out, c, e, layout::INPUT, LINE_END)
 }
@@ -125,9 +122,10 @@ fn on_off(out: &mut [u8], at: usize, flags: u8) -> usize
     ensures upper_bound { result ≤ at + 8 }
 {
     if flags % 2 == 1 {
-        return word(out, at, b"on ");
+        word(out, at, b"on ")
+    } else {
+        word(out, at, b"off ")
     }
-    word(out, at, b"off ")
 }
 
 fn boot_ap(out: &mut [u8], at: usize, flags: u8) -> usize
@@ -136,9 +134,10 @@ fn boot_ap(out: &mut [u8], at: usize, flags: u8) -> usize
     ensures upper_bound { result ≤ at + 8 }
 {
     if flags / 2 % 2 == 1 {
-        return word(out, at, b"boot\n");
+        word(out, at, b"boot\n")
+    } else {
+        word(out, at, b"ap\n")
     }
-    word(out, at, b"ap\n")
 }
 
 // With a space on either side: the word in front of it comes without one.
@@ -147,14 +146,10 @@ fn interrupt_name(out: &mut [u8], at: usize, kind: u8) -> usize
     ensures wrote { Wrote out.old at (32 ∷ ended (interrupt_name kind) 32) out.new result }
     ensures upper_bound { result ≤ at + 8 }
 {
-    if kind == 0 {
-        return word(out, at, b" INT ");
+    match kind {
+        0 => word(out, at, b" INT "),
+        1 => word(out, at, b" NMI "),
+        2 => word(out, at, b" SMI "),
+        _ => word(out, at, b" EXTINT "),
     }
-    if kind == 1 {
-        return word(out, at, b" NMI ");
-    }
-    if kind == 2 {
-        return word(out, at, b" SMI ");
-    }
-    word(out, at, b" EXTINT ")
 }

@@ -1,41 +1,36 @@
 // The lines of extended entries: map, tree, mod and skip.
 ghost use Rattle.std.specs.Prelude.{◌≡◌, ◌+◌, ◌≤◌, length};
-ghost use Rattle.std.proofs.lemmas.List.Edits.{sets};
 ghost use Rattle.mps.specs.Listing.{tree_line, mod_line, skip_line, extended_line};
 ghost use Rattle.mps.specs.Words.{byte as byte_of};
 ghost use Rattle.mps.specs.Numbers.{bytes};
 ghost use Rattle.lines.specs.Wrote.{Wrote, space_line};
 
-use super::{LINE, byte, decimal, field, has, hex16, high, moved, word};
+use super::{Put, byte, decimal, field, hex16, high, word};
 use mps::layout;
 use text::{LINE_END, SPACE};
 
-// The line of a mapping, whose base and length are numbers of their own.
-pub(super) fn map_line(out: &mut [u8], at: usize, e: u64, base: u64, size: u64) -> usize
-    ensures value { result ≡ length (space_line (bytes 8 e) base size) }
-    ensures out_after { out.new ≡ sets out.old at (space_line (bytes 8 e) base size) }
-{
-    if has(out, at, LINE) {
-        return map(out, at, e, base, size) - at;
+// A mapping, whose base and length are numbers of their own.
+#[derive(Drop)]
+pub(super) struct MapLine {
+    pub(super) e: u64,
+    pub(super) base: u64,
+    pub(super) size: u64,
+}
+
+impl Put for MapLine {
+    ghost text = { λ m. space_line (bytes 8 m.e) m.base m.size };
+
+    fn put(&self, out: &mut [u8], at: usize) -> usize {
+        let e = self.e;
+        let a = word(out, at, b"map ");
+        let b = field(out, a, e, layout::EXTENDED_BUS, SPACE);
+        let c = field(out, b, e, layout::SPACE_KIND, SPACE);
+        let d = hex16(out, c, self.base, SPACE);
+        hex16(out, d, self.size, LINE_END)
     }
-    let mut buffer: [u8; 64] = [0; 64];
-    let n = map(&mut buffer, 0, e, base, size);
-    moved(out, at, &buffer, n)
 }
 
 // Each of these stores one line and answers the place behind it.
-
-fn map(out: &mut [u8], at: usize, e: u64, base: u64, size: u64) -> usize
-    requires { at + 64 ≤ length out.old }
-    ensures wrote { Wrote out.old at (space_line (bytes 8 e) base size) out.new result }
-    ensures upper_bound { result ≤ at + 64 }
-{
-    let a = word(out, at, b"map ");
-    let b = field(out, a, e, layout::EXTENDED_BUS, SPACE);
-    let c = field(out, b, e, layout::SPACE_KIND, SPACE);
-    let d = hex16(out, c, base, SPACE);
-    hex16(out, d, size, LINE_END)
-}
 
 // An entry of another type.
 pub(super) fn entry(out: &mut [u8], at: usize, e: u64) -> usize
@@ -43,14 +38,11 @@ pub(super) fn entry(out: &mut [u8], at: usize, e: u64) -> usize
     ensures wrote { Wrote out.old at (extended_line (bytes 8 e)) out.new result }
     ensures upper_bound { result ≤ at + 64 }
 {
-    let kind = byte(e, 0);
-    if kind == layout::HIERARCHY_TYPE {
-        return tree(out, at, e);
+    match byte(e, 0) {
+        layout::HIERARCHY_TYPE => tree(out, at, e),
+        layout::MODIFIER_TYPE => modifier(out, at, e),
+        _ => skip(out, at, e),
     }
-    if kind == layout::MODIFIER_TYPE {
-        return modifier(out, at, e);
-    }
-    skip(out, at, e)
 }
 
 fn tree(out: &mut [u8], at: usize, e: u64) -> usize
@@ -62,7 +54,7 @@ fn tree(out: &mut [u8], at: usize, e: u64) -> usize
     let a = word(out, at, b"tree ");
     let b = field(out, a, e, layout::EXTENDED_BUS, SPACE);
     let c = field(out, b, e, layout::PARENT_BUS, SPACE);
-    decimal(out, c, (link % 2) as u32, LINE_END)
+    decimal(out, c, u32::from(link % 2), LINE_END)
 }
 
 fn modifier(out: &mut [u8], at: usize, e: u64) -> usize
@@ -73,7 +65,7 @@ fn modifier(out: &mut [u8], at: usize, e: u64) -> usize
     let link = byte(e, layout::LINK_BIT);
     let a = word(out, at, b"mod ");
     let b = field(out, a, e, layout::EXTENDED_BUS, SPACE);
-    let c = decimal(out, b, (link % 2) as u32, SPACE);
+    let c = decimal(out, b, u32::from(link % 2), SPACE);
     decimal(out, c, high(e), LINE_END)
 }
 

@@ -1,57 +1,69 @@
 // The lines around the entries: pointer, table and end; and those that stand alone: default and refused.
-ghost use Rattle.std.specs.Prelude.{◌≡◌, ◌+◌, ◌≤◌, length};
+ghost use Rattle.std.specs.Prelude.{◌≡◌, length};
 ghost use Rattle.std.proofs.lemmas.List.Edits.{sets};
 ghost use Rattle.mps.specs.Listing.{pointer_line, table_line, end_line, default_line, refused_line};
-ghost use Rattle.lines.specs.Wrote.{Wrote};
 
-use super::{LINE, decimal, has, hex8, moved, put_word, word};
+use super::{Put, decimal, has, hex8, put_word, store, word};
 use text::{LINE_END, SPACE};
+
+#[derive(Drop)]
+struct PointerLine {
+    address: u32,
+    imcr: u8,
+}
+
+impl Put for PointerLine {
+    ghost text = { λ l. pointer_line l.address l.imcr };
+
+    fn put(&self, out: &mut [u8], at: usize) -> usize {
+        let a = word(out, at, b"pointer ");
+        let b = hex8(out, a, self.address, SPACE);
+        let c = word(out, b, b"imcr ");
+        decimal(out, c, self.imcr as u32, LINE_END)
+    }
+}
 
 pub fn pointer(out: &mut [u8], at: usize, address: u32, imcr: u8) -> usize
     ensures value { result ≡ length (pointer_line address imcr) }
     ensures out_after { out.new ≡ sets out.old at (pointer_line address imcr) }
 {
-    if has(out, at, LINE) {
-        return put_pointer(out, at, address, imcr) - at;
-    }
-    let mut buffer: [u8; 64] = [0; 64];
-    let n = put_pointer(&mut buffer, 0, address, imcr);
-    moved(out, at, &buffer, n)
+    store(out, at, &PointerLine { address, imcr })
 }
 
-fn put_pointer(out: &mut [u8], at: usize, address: u32, imcr: u8) -> usize
-    requires { at + 64 ≤ length out.old }
-    ensures wrote { Wrote out.old at (pointer_line address imcr) out.new result }
-    ensures upper_bound { result ≤ at + 64 }
-{
-    let a = word(out, at, b"pointer ");
-    let b = hex8(out, a, address, SPACE);
-    let c = word(out, b, b"imcr ");
-    decimal(out, c, imcr as u32, LINE_END)
+#[derive(Drop)]
+struct TableLine {
+    address: u32,
+    base: u16,
+    extended: u16,
+    count: u16,
+}
+
+impl Put for TableLine {
+    ghost text = { λ l. table_line l.address l.base l.extended l.count };
+
+    fn put(&self, out: &mut [u8], at: usize) -> usize {
+        let a = word(out, at, b"table ");
+        let b = hex8(out, a, self.address, SPACE);
+        let c = decimal(out, b, self.base as u32, SPACE);
+        let d = decimal(out, c, self.extended as u32, SPACE);
+        decimal(out, d, self.count as u32, LINE_END)
+    }
 }
 
 pub fn table(out: &mut [u8], at: usize, address: u32, base: u16, extended: u16, count: u16) -> usize
     ensures value { result ≡ length (table_line address base extended count) }
     ensures out_after { out.new ≡ sets out.old at (table_line address base extended count) }
 {
-    if has(out, at, LINE) {
-        return put_table(out, at, address, base, extended, count) - at;
-    }
-    let mut buffer: [u8; 64] = [0; 64];
-    let n = put_table(&mut buffer, 0, address, base, extended, count);
-    moved(out, at, &buffer, n)
-}
-
-fn put_table(out: &mut [u8], at: usize, address: u32, base: u16, extended: u16, count: u16) -> usize
-    requires { at + 64 ≤ length out.old }
-    ensures wrote { Wrote out.old at (table_line address base extended count) out.new result }
-    ensures upper_bound { result ≤ at + 64 }
-{
-    let a = word(out, at, b"table ");
-    let b = hex8(out, a, address, SPACE);
-    let c = decimal(out, b, base as u32, SPACE);
-    let d = decimal(out, c, extended as u32, SPACE);
-    decimal(out, d, count as u32, LINE_END)
+    store(
+        out,
+        at,
+        &TableLine {
+            address,
+            base,
+            extended,
+            count,
+        },
+    )
 }
 
 // It is the last line, and a room that just fits has its four bytes and no more.
@@ -67,42 +79,47 @@ pub fn end(out: &mut [u8], at: usize) -> usize
     4
 }
 
-// The next two are the only line of an answer, and always made in the buffer.
+#[derive(Drop)]
+struct DefaultLine {
+    number: u8,
+    imcr: u8,
+}
+
+impl Put for DefaultLine {
+    ghost text = { λ l. default_line l.number l.imcr };
+
+    fn put(&self, out: &mut [u8], at: usize) -> usize {
+        let a = word(out, at, b"default ");
+        let b = decimal(out, a, self.number as u32, SPACE);
+        let c = word(out, b, b"imcr ");
+        decimal(out, c, self.imcr as u32, LINE_END)
+    }
+}
 
 pub fn default(out: &mut [u8], at: usize, number: u8, imcr: u8) -> usize
     ensures value { result ≡ length (default_line number imcr) }
     ensures out_after { out.new ≡ sets out.old at (default_line number imcr) }
 {
-    let mut buffer: [u8; 64] = [0; 64];
-    let n = put_default(&mut buffer, 0, number, imcr);
-    moved(out, at, &buffer, n)
+    store(out, at, &DefaultLine { number, imcr })
 }
 
-fn put_default(out: &mut [u8], at: usize, number: u8, imcr: u8) -> usize
-    requires { at + 64 ≤ length out.old }
-    ensures wrote { Wrote out.old at (default_line number imcr) out.new result }
-    ensures upper_bound { result ≤ at + 64 }
-{
-    let a = word(out, at, b"default ");
-    let b = decimal(out, a, number as u32, SPACE);
-    let c = word(out, b, b"imcr ");
-    decimal(out, c, imcr as u32, LINE_END)
+#[derive(Drop)]
+struct RefusedLine {
+    number: u8,
+}
+
+impl Put for RefusedLine {
+    ghost text = { λ l. refused_line l.number };
+
+    fn put(&self, out: &mut [u8], at: usize) -> usize {
+        let a = word(out, at, b"refused ");
+        decimal(out, a, self.number as u32, LINE_END)
+    }
 }
 
 pub fn refused(out: &mut [u8], at: usize, number: u8) -> usize
     ensures value { result ≡ length (refused_line number) }
     ensures out_after { out.new ≡ sets out.old at (refused_line number) }
 {
-    let mut buffer: [u8; 64] = [0; 64];
-    let n = put_refused(&mut buffer, 0, number);
-    moved(out, at, &buffer, n)
-}
-
-fn put_refused(out: &mut [u8], at: usize, number: u8) -> usize
-    requires { at + 64 ≤ length out.old }
-    ensures wrote { Wrote out.old at (refused_line number) out.new result }
-    ensures upper_bound { result ≤ at + 64 }
-{
-    let a = word(out, at, b"refused ");
-    decimal(out, a, number as u32, LINE_END)
+    store(out, at, &RefusedLine { number })
 }

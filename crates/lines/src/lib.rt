@@ -14,7 +14,7 @@ mod extended; // the lines of extended entries
 pub mod frame; // the lines that stand around them, or alone
 mod numerals; // the digits of numbers
 
-ghost use Rattle.std.specs.Prelude.{◌≡◌, [], ◌∷◌, ◌+◌, ◌≤◌, ◌<◌, length, get_or, take, leb};
+ghost use Rattle.std.specs.Prelude.{◌≡◌, ℕ, List, [], ◌∷◌, ◌+◌, ◌≤◌, ◌<◌, length, get_or, take, leb};
 ghost use Rattle.std.proofs.lemmas.List.Edits.{sets};
 ghost use Rattle.mps.specs.Numbers.{le, bytes};
 ghost use Rattle.mps.specs.Listing.{decimal as decimal_of, hex, unpadded};
@@ -47,6 +47,30 @@ fn moved(out: &mut [u8], at: usize, buffer: &[u8], n: usize) -> usize
     n
 }
 
+// A line that one call stores, and what it shows.
+trait Put {
+    ghost text: { Self → List ℕ };
+
+    // Stores it where the longest has room, and answers the place behind it.
+    fn put(&self, out: &mut [u8], at: usize) -> usize
+        requires { at + 64 ≤ length out.old }
+        ensures wrote { Wrote out.old at (text self.now) out.new result }
+        ensures upper_bound { result ≤ at + 64 };
+}
+
+// Stores a line as far as it has room; answers how many bytes it has.
+fn store<L: Put>(out: &mut [u8], at: usize, line: &L) -> usize
+    ensures value { result ≡ length (L.text line.now) }
+    ensures out_after { out.new ≡ sets out.old at (L.text line.now) }
+{
+    if has(out, at, LINE) {
+        return line.put(out, at) - at;
+    }
+    let mut buffer: [u8; 64] = [0; 64];
+    let n = line.put(&mut buffer, 0);
+    moved(out, at, &buffer, n)
+}
+
 // An entry that fits in a register is handed on in one: its bytes are in hand then, whatever is stored meanwhile.
 
 // A byte of an entry.
@@ -68,11 +92,7 @@ fn put_word(out: &mut [u8], at: usize, w: &[u8])
     requires { at + length w.now ≤ length out.old }
     ensures { out.new ≡ sets out.old at w.now }
 {
-    let mut i = 0;
-    while i < w.len() {
-        out[at + i] = w[i];
-        i += 1;
-    }
+    out[at..at + w.len()].copy_from_slice(w);
 }
 
 // Each of these stores one word and answers the place behind it.
@@ -104,8 +124,7 @@ fn field(out: &mut [u8], at: usize, e: u64, k: usize, last: u8) -> usize
     ensures wrote { Wrote out.old at (ended (decimal_of (get_or (bytes 8 e) k 0)) last) out.new result }
     ensures upper_bound { result ≤ at + 6 }
 {
-    let x = byte(e, k);
-    decimal(out, at, x as u32, last)
+    decimal(out, at, u32::from(byte(e, k)), last)
 }
 
 // "addresses eight upper-case hex digits"
@@ -114,7 +133,7 @@ fn hex8(out: &mut [u8], at: usize, x: u32, last: u8) -> usize
     ensures wrote { Wrote out.old at (ended (hex 8 x) last) out.new result }
     ensures upper_bound { result ≤ at + 9 }
 {
-    at + numerals::hexadecimal(out, at, x as u64, 8, last)
+    at + numerals::hexadecimal(out, at, u64::from(x), 8, last)
 }
 
 // "16 hex digits each", a mapping's base and length.

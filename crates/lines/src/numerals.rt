@@ -1,23 +1,23 @@
 // The digits of a number and the byte behind them, in a room that has place for them. Each of these answers how many they are.
 ghost use Rattle.std.specs.Prelude.{◌≡◌, ◌+◌, ◌≤◌, ◌<◌, length};
 ghost use Rattle.std.proofs.lemmas.List.Edits.{sets};
-ghost use Rattle.mps.specs.Listing.{digits, decimal_digit, hex_digit, decimal as decimal_of, hex};
+ghost use Rattle.mps.specs.Listing.{digits, hex_digit, decimal as decimal_of, hex};
 ghost use Rattle.text.specs.Text.{ended};
 
 // The digit 0.
 const ZERO: u8 = 48;
 
-// The last digit is known first, so the stores go down.
-fn put_decimal(out: &mut [u8], at: usize, x: u64, k: usize)
-    requires { at + k ≤ length out.old }
-    ensures { out.new ≡ sets out.old at (digits 10 decimal_digit k x) }
+// The digits of a number in a base, which `digits` has to have digits for. The last digit is known first, so the stores go down.
+#[tactic(auto, using(crate::proofs::Digits::digits_next, crate::proofs::Digits::digits_done))]
+fn put_digits<const BASE: u64>(out: &mut [u8], at: usize, x: u64, k: usize)
+    requires room { at + k ≤ length out.old }
+    requires base { (0 < BASE) × (BASE ≤ 16) }
+    ensures { out.new ≡ sets out.old at (digits BASE hex_digit k x) }
 {
-    let mut m = k;
     let mut v = x;
-    while 0 < m {
-        m -= 1;
-        out[at + m] = ZERO + (v % 10) as u8;
-        v = v / 10;
+    for m in (0..k).rev() {
+        out[at + m] = digits::hex((v % BASE) as u8);
+        v /= BASE;
     }
 }
 
@@ -51,22 +51,9 @@ pub(super) fn long_decimal(out: &mut [u8], at: usize, x: u32, last: u8) -> usize
     ensures out_after { out.new ≡ sets out.old at (ended (decimal_of x) last) }
 {
     let k = text::width(x);
-    put_decimal(out, at, x as u64, k);
+    put_digits::<10>(out, at, u64::from(x), k);
     out[at + k] = last;
     k + 1
-}
-
-fn put_hex(out: &mut [u8], at: usize, x: u64, k: usize)
-    requires { at + k ≤ length out.old }
-    ensures { out.new ≡ sets out.old at (digits 16 hex_digit k x) }
-{
-    let mut m = k;
-    let mut v = x;
-    while 0 < m {
-        m -= 1;
-        out[at + m] = digits::hex((v % 16) as u8);
-        v = v / 16;
-    }
 }
 
 // k digits of any number.
@@ -75,7 +62,7 @@ pub(super) fn hexadecimal(out: &mut [u8], at: usize, x: u64, k: usize, last: u8)
     ensures value { result ≡ length (ended (hex k x) last) }
     ensures out_after { out.new ≡ sets out.old at (ended (hex k x) last) }
 {
-    put_hex(out, at, x, k);
+    put_digits::<16>(out, at, x, k);
     out[at + k] = last;
     k + 1
 }

@@ -9,16 +9,11 @@
 ghost use Rattle.std.specs.Prelude.{◌≡◌};
 ghost use Rattle.runs.specs.Runs.{size_of};
 
-use mps::layout;
-
 // The bytes of an entry, by its type counted from the first of its part: mappings have as many as processors, and all
 // the others 8.
+#[tactic(auto, unfolding(mps::specs::Layout::base_entry_length))]
 pub fn size_of(kind: u8) -> usize
     ensures { result ≡ size_of kind }
 {
-    if kind == layout::PROCESSOR_TYPE {
-        layout::PROCESSOR_SIZE
-    } else {
-        layout::ENTRY_SIZE
-    }
+    entries::size(kind)
 }

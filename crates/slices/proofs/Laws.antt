@@ -1,15 +1,14 @@
--- Laws of `same`, and of `sets` for a loop, from the first byte or from the last. Assumes nothing.
+-- Laws of `same`, and of what the library's methods store. Assumes nothing.
 use Prim.Native.Nat.{ℕ, ◌+◌, ◌-◌, ◌≤◌, ◌<◌, min}
 use mathlib.Core.Path.{◌≡◌, refl, ap, sym, ◌∙◌}
 use mathlib.Core.Bool.{Bool, true, false, true≢false, ◌&&◌}
 use Rattle.std.specs.List.{copy_within}
 use Rattle.std.specs.Cmp.Lexicographic.{pointwise}
 use mathlib.Core.List.{List, [], ◌∷◌, ◌++◌, append_assoc}
-use native.Mathlib.Numerals.{add-one}
 use native.Mathlib.Omega.{arith}
-use lib.ListN.{length, get_or, set, take, drop, replicate, drop_of_length-le, length-drop, take-append-drop}
+use lib.ListN.{length, take, drop, replicate, drop_of_length-le, length-drop, take-append-drop}
 use Rattle.std.proofs.lemmas.List.{length-take, take-take, take-replicate, length-replicate}
-use lib.Seq.{drop-cons, sets, length-sets, length-take-le}
+use lib.Seq.{sets, length-sets, length-take-le}
 use lib.Dec.{eqb, leb}
 use borrow.Author.Tests.{eq-eqb, eqb-true, leb-true, leb-false}
 use Rattle.mps.specs.Words.{same, part}
@@ -48,17 +47,6 @@ same_compared [] [] r e = e
 same_compared [] (y ∷ ys) r e = e
 same_compared (x ∷ xs) [] r e = e
 same_compared (x ∷ xs) (y ∷ ys) r e = e ∙ ap (λ (q : Bool). eqb x y && q) (same_compared xs ys (pointwise eqb xs ys) refl)
-
--- ---- sets, at a place of the loop
-
--- From byte i of w on: nothing is left, or one more is stored.
-module _ (t w : List ℕ) (at i : ℕ) where
-  pub sets_done : length w ≤ i → sets t at (drop i w) ≡ t
-  sets_done h = rw drop_of_length-le
-
-  pub sets_next :
-      i < length w → sets t at (drop i w) ≡ sets (set t at (get_or w i 0)) (at + 1) (drop (i + 1) w)
-  sets_next h = rw (add-one i, add-one at, drop-cons w i 0 h)
 
 -- ---- What is stored in a part of a list, by one of the library's methods
 

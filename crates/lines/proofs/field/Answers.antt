@@ -2,4 +2,4 @@
 use Rattle.lines.proofs.field.Goals as goal
 
 pub returns : goal.returns
-returns c = rw c.byte-x.ensures at c.decimal.ensures
+returns c = rw (c.from.ensures, c.byte.ensures) at c.decimal.ensures

@@ -4,14 +4,10 @@ use Rattle.mps.specs.Words.{text}
 use Rattle.lines.proofs.BaseLines.{boot_is, ap_is}
 use Rattle.lines.proofs.base.boot_ap.Goals as goal
 
-pub returns-then-flags-eq1 : goal.returns-then-flags-eq1
+pub returns-then-flags-eq1-clause-wrote : goal.returns-then-flags-eq1-clause-wrote
 unfolding text
-returns-then-flags-eq1 c =
-    let f = c.word in
-    record { wrote = boot_is _ (omega arith) f.ensures.wrote; upper_bound = f.ensures.upper_bound }
+returns-then-flags-eq1-clause-wrote c = boot_is _ (omega arith) c.word.ensures.wrote
 
-pub returns : goal.returns
+pub returns-else-flags-eq1-clause-wrote : goal.returns-else-flags-eq1-clause-wrote
 unfolding text
-returns c =
-    let f = c.word-2 in
-    record { wrote = ap_is _ (omega arith) f.ensures.wrote; upper_bound = f.ensures.upper_bound }
+returns-else-flags-eq1-clause-wrote c = ap_is _ (omega arith) c.word-else-flags-eq1.ensures.wrote

@@ -5,35 +5,23 @@ use Rattle.mps.specs.Numbers.{bytes}
 use Rattle.mps.specs.Words.{text}
 use Rattle.lines.proofs.base.entry.Goals as goal
 
-pub returns-then-kind-eq-PROCESSOR_TYPE : goal.returns-then-kind-eq-PROCESSOR_TYPE
-returns-then-kind-eq-PROCESSOR_TYPE c =
-    let args = c.args in
-    record { wrote = cpu_first (bytes 8 args.e) _ c.byte-kind.ensures (omega arith) c.cpu.ensures.wrote; upper_bound = c.cpu.ensures.upper_bound }
+pub returns-in-0-clause-wrote : goal.returns-in-0-clause-wrote
+returns-in-0-clause-wrote c = cpu_first (bytes 8 c.args.e) _ c.byte.ensures (omega arith) c.cpu.ensures.wrote
 
-pub returns-then-kind-eq-BUS_TYPE : goal.returns-then-kind-eq-BUS_TYPE
-returns-then-kind-eq-BUS_TYPE c =
-    let args = c.args in
-    record { wrote = bus_first (bytes 8 args.e) _ c.byte-kind.ensures (omega arith) c.bus.ensures.wrote; upper_bound = c.bus.ensures.upper_bound }
+pub returns-in-1-clause-wrote : goal.returns-in-1-clause-wrote
+returns-in-1-clause-wrote c = bus_first (bytes 8 c.args.e) _ c.byte.ensures (omega arith) c.bus.ensures.wrote
 
-pub returns-then-kind-eq-IO_APIC_TYPE : goal.returns-then-kind-eq-IO_APIC_TYPE
-returns-then-kind-eq-IO_APIC_TYPE c =
-    let args = c.args in
-    record { wrote = io_apic_first (bytes 8 args.e) _ c.byte-kind.ensures (omega arith) c.io_apic.ensures.wrote; upper_bound = c.io_apic.ensures.upper_bound }
+pub returns-in-2-clause-wrote : goal.returns-in-2-clause-wrote
+returns-in-2-clause-wrote c = io_apic_first (bytes 8 c.args.e) _ c.byte.ensures (omega arith) c.io_apic.ensures.wrote
 
-pub returns-then-kind-eq-IO_INTERRUPT_TYPE : goal.returns-then-kind-eq-IO_INTERRUPT_TYPE
+pub returns-in-3-clause-wrote : goal.returns-in-3-clause-wrote
 unfolding text
-returns-then-kind-eq-IO_INTERRUPT_TYPE c =
-    let args = c.args in record {
-      wrote = int_first (bytes 8 args.e) _ c.byte-kind.ensures (omega arith)
-          (interrupt_line_lem (bytes 8 args.e) (text "int") c.word-a.ensures.wrote c.interrupt.ensures.fact);
-      upper_bound = omega arith;
-    }
+returns-in-3-clause-wrote c =
+    int_first (bytes 8 c.args.e) _ c.byte.ensures (omega arith)
+    (interrupt_line_lem (bytes 8 c.args.e) (text "int") c.word-a.ensures.wrote c.interrupt.ensures.fact)
 
-pub returns : goal.returns
+pub returns-in_default-clause-wrote : goal.returns-in_default-clause-wrote
 unfolding text
-returns c =
-    let args = c.args in record {
-      wrote = lint_first (bytes 8 args.e) _ c.byte-kind.ensures (omega arith)
-          (interrupt_line_lem (bytes 8 args.e) (text "lint") c.word-a-2.ensures.wrote c.interrupt-2.ensures.fact);
-      upper_bound = omega arith;
-    }
+returns-in_default-clause-wrote c =
+    lint_first (bytes 8 c.args.e) _ c.byte.ensures (omega arith)
+    (interrupt_line_lem (bytes 8 c.args.e) (text "lint") c.word-a-in_default.ensures.wrote c.interrupt-in_default.ensures.fact)

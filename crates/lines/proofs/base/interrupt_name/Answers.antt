@@ -4,26 +4,18 @@ use Rattle.mps.specs.Words.{text}
 use Rattle.lines.proofs.BaseLines.{int_is, nmi_is, smi_is, extint_is}
 use Rattle.lines.proofs.base.interrupt_name.Goals as goal
 
-pub returns-then-kind-eq0 : goal.returns-then-kind-eq0
+pub returns-in-0-clause-wrote : goal.returns-in-0-clause-wrote
 unfolding text
-returns-then-kind-eq0 c =
-    let f = c.word in
-    record { wrote = int_is _ (omega arith) f.ensures.wrote; upper_bound = f.ensures.upper_bound }
+returns-in-0-clause-wrote c = int_is _ (omega arith) c.word.ensures.wrote
 
-pub returns-then-kind-eq1 : goal.returns-then-kind-eq1
+pub returns-in-1-clause-wrote : goal.returns-in-1-clause-wrote
 unfolding text
-returns-then-kind-eq1 c =
-    let f = c.word-then-kind-eq1 in
-    record { wrote = nmi_is _ (omega arith) f.ensures.wrote; upper_bound = f.ensures.upper_bound }
+returns-in-1-clause-wrote c = nmi_is _ (omega arith) c.word-in-1.ensures.wrote
 
-pub returns-then-kind-eq2 : goal.returns-then-kind-eq2
+pub returns-in-2-clause-wrote : goal.returns-in-2-clause-wrote
 unfolding text
-returns-then-kind-eq2 c =
-    let f = c.word-then-kind-eq2 in
-    record { wrote = smi_is _ (omega arith) f.ensures.wrote; upper_bound = f.ensures.upper_bound }
+returns-in-2-clause-wrote c = smi_is _ (omega arith) c.word-in-2.ensures.wrote
 
-pub returns : goal.returns
+pub returns-in_default-clause-wrote : goal.returns-in_default-clause-wrote
 unfolding text
-returns c =
-    let f = c.word-2 in
-    record { wrote = extint_is _ (omega arith) f.ensures.wrote; upper_bound = f.ensures.upper_bound }
+returns-in_default-clause-wrote c = extint_is _ (omega arith) c.word-in_default.ensures.wrote

@@ -4,14 +4,10 @@ use Rattle.mps.specs.Words.{text}
 use Rattle.lines.proofs.BaseLines.{on_is, off_is}
 use Rattle.lines.proofs.base.on_off.Goals as goal
 
-pub returns-then-flags-eq1 : goal.returns-then-flags-eq1
+pub returns-then-flags-eq1-clause-wrote : goal.returns-then-flags-eq1-clause-wrote
 unfolding text
-returns-then-flags-eq1 c =
-    let f = c.word in
-    record { wrote = on_is _ (omega arith) f.ensures.wrote; upper_bound = f.ensures.upper_bound }
+returns-then-flags-eq1-clause-wrote c = on_is _ (omega arith) c.word.ensures.wrote
 
-pub returns : goal.returns
+pub returns-else-flags-eq1-clause-wrote : goal.returns-else-flags-eq1-clause-wrote
 unfolding text
-returns c =
-    let f = c.word-2 in
-    record { wrote = off_is _ (omega arith) f.ensures.wrote; upper_bound = f.ensures.upper_bound }
+returns-else-flags-eq1-clause-wrote c = off_is _ (omega arith) c.word-else-flags-eq1.ensures.wrote

@@ -1,29 +1,18 @@
 -- The type's law at each return: which line it is.
 use mathlib.Core.Path.{sym, ◌∙◌}
+use native.Mathlib.Omega.{arith}
 use Rattle.lines.proofs.ExtendedLines.{tree_type, mod_type, skip_type}
 use Rattle.mps.specs.Numbers.{bytes}
 use Rattle.lines.proofs.extended.entry.Goals as goal
 
-pub returns-then-kind : goal.returns-then-kind
-returns-then-kind c =
-    let args = c.args in record {
-      wrote = rw (tree_type (bytes 8 args.e) c.byte-kind.ensures (λ q. c.requires.1 (sym c.byte-kind.ensures ∙ q))
-          c.if-kind.true) c.tree.ensures.wrote;
-      upper_bound = c.tree.ensures.upper_bound;
-    }
+pub returns-in-129-clause-wrote : goal.returns-in-129-clause-wrote
+returns-in-129-clause-wrote c =
+    rw (tree_type (bytes 8 c.args.e) c.byte.ensures (λ q. c.requires.1 (sym c.byte.ensures ∙ q)) c.in-129.is) c.tree.ensures.wrote
 
-pub returns-then-kind-2 : goal.returns-then-kind-2
-returns-then-kind-2 c =
-    let args = c.args in record {
-      wrote = rw (mod_type (bytes 8 args.e) c.byte-kind.ensures (λ q. c.requires.1 (sym c.byte-kind.ensures ∙ q))
-          c.if-kind.false c.if-kind-2.true) c.modifier.ensures.wrote;
-      upper_bound = c.modifier.ensures.upper_bound;
-    }
+pub returns-in-130-clause-wrote : goal.returns-in-130-clause-wrote
+returns-in-130-clause-wrote c =
+    rw (mod_type (bytes 8 c.args.e) c.byte.ensures (λ q. c.requires.1 (sym c.byte.ensures ∙ q)) (λ q. omega arith) c.in-130.is) c.modifier.ensures.wrote
 
-pub returns : goal.returns
-returns c =
-    let args = c.args in record {
-      wrote = rw (skip_type (bytes 8 args.e) c.byte-kind.ensures (λ q. c.requires.1 (sym c.byte-kind.ensures ∙ q))
-          c.if-kind.false c.if-kind-2.false) c.skip.ensures.wrote;
-      upper_bound = c.skip.ensures.upper_bound;
-    }
+pub returns-in_default-clause-wrote : goal.returns-in_default-clause-wrote
+returns-in_default-clause-wrote c =
+    rw (skip_type (bytes 8 c.args.e) c.byte.ensures (λ q. c.requires.1 (sym c.byte.ensures ∙ q)) (λ q. omega arith) (λ q. omega arith)) c.skip.ensures.wrote

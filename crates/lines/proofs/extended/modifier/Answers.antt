@@ -11,6 +11,6 @@ unfolding ended text
 returns c =
     let args = c.args in record {
       wrote = mod_is (bytes 8 args.e) c.byte-link.ensures c.high.ensures c.word-a.ensures.wrote c.field-b.ensures.wrote
-          c.decimal-c.ensures.wrote c.decimal.ensures.wrote;
+          (rw c.from.ensures at c.decimal-c.ensures.wrote) c.decimal.ensures.wrote;
       upper_bound = omega arith;
     }

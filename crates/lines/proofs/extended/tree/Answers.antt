@@ -11,6 +11,6 @@ unfolding ended text
 returns c =
     let args = c.args in record {
       wrote = tree_is (bytes 8 args.e) c.byte-link.ensures c.word-a.ensures.wrote c.field-b.ensures.wrote
-          c.field-c.ensures.wrote c.decimal.ensures.wrote;
+          c.field-c.ensures.wrote (rw c.from.ensures at c.decimal.ensures.wrote);
       upper_bound = omega arith;
     }
