@@ -38,10 +38,10 @@ use Rattle.promises.proofs.Runs.{Calls, Good, calls_run, calls_fresh, run_good, 
 -- ---- A body that is handed out
 
 -- What is answered with a place is of a good book that holds the edition.
-stands_given : (n size start : ℕ) {a b : ℕ} → answered n (record { size = size; start = start }) ≡ Ok (record { size = a; start = b })
+stands_given : (n size start : ℕ) {a b : ℕ} → answered {A = Body} n (record { size = size; start = start }) ≡ Ok (record { size = a; start = b })
     → (n ≡ 0) × (a ≡ size) × (b ≡ start)
 stands_given n size start e =
-    let g = given_ok n _ (sym e) in
+    let g = given_ok {A = Body} n (record { size = size; start = start }) (sym e) in
     (g.0, ap (λ (x : Body). x.size) g.1, ap (λ (x : Body). x.start) g.1)
 
 -- A good body ends where its table does.

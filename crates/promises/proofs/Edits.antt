@@ -1,7 +1,7 @@
 -- The numbers of an edit, "given exactly when"; demand 3: "In a sound table, with a place that exists and the right lengths
 -- and type, it is refused as changed exactly when other bytes stand there"; and what an accepted edit tells. Assumes nothing.
 use Rattle.std.specs.Prelude.{Ok, Err, Result}
-use Prim.Native.Nat.{ℕ, suc, ◌<◌, ◌≤◌}
+use Prim.Native.Nat.{ℕ, suc, ◌<◌, ◌≤◌, zero}
 use mathlib.Core.Path.{◌≡◌, refl, sym, ap, ◌∙◌}
 use mathlib.Core.Bool.{true, false, not, true≢false}
 use mathlib.Core.Logic.{◌↔◌}
