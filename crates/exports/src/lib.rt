@@ -9,7 +9,7 @@
 // Nothing is lost: of every answer that a call can give, C takes out the numbers that mps's specs/Answers.antt has for it.
 // proofs/Told.antt proves it, a theorem for each call. A function below cuts each value to its width, and so needs to know
 // nothing of the call that its answer comes from; that nothing is there to cut is part of the same theorems.
-#![tactic(auto)]
+#![tactic(auto, unfolding(crate::specs::Codes::judged_code, crate::specs::Codes::lent_code, crate::specs::Codes::parted_code, crate::specs::Codes::renumbered_code, crate::specs::Codes::booked_code, crate::specs::Codes::latest_code, crate::specs::Codes::body_code, crate::specs::Codes::seen_code, crate::specs::Codes::held_code))]
 
 ghost use Rattle.std.specs.Prelude.{◌≡◌};
 ghost use Rattle.mps.specs.Judge.{judged, held};

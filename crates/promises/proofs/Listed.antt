@@ -1,7 +1,7 @@
 -- Demand 2: "The listing, the routes and the addresses seen by a bus are those the table declares", of the listing: which
 -- lines it has, which fields of the table each line shows, and that they are read again from its bytes. Assumes nothing.
 use Prim.Native.Nat.{ℕ, zero, suc, ◌<◌, ◌≤◌}
-use mathlib.Core.Path.{◌≡◌, refl, sym, ◌∙◌}
+use mathlib.Core.Path.{◌≡◌, refl, sym, ◌∙◌, ap}
 use mathlib.Core.Bool.{Bool, true, false, not, ◌&&◌, ◌||◌}
 use mathlib.Core.List.{List, [], ◌∷◌, ◌++◌, append-nil}
 use native.Mathlib.Omega.{arith}
@@ -29,6 +29,9 @@ use Rattle.mps.specs.declared.Held.{Held}
 use Rattle.mps.specs.declared.Held.TheVariants.{Default, Table}
 use Rattle.mps.specs.declared.refusals.Refusal.{Refusal}
 use Rattle.mps.specs.Reasons.{number_of_refusal}
+use Rattle.mps.specs.Answers.{number_of, held_numbers}
+use Rattle.laws.proofs.Answers.{refusal_small}
+use Rattle.promises.proofs.Numbered.{read_number}
 use Rattle.std.specs.Prelude.{Result, Ok, Err}
 use Rattle.laws.proofs.Tests.{whether, or_parts}
 use Rattle.laws.proofs.Refusals.{first_none, refusal_pass}
@@ -367,12 +370,15 @@ module _ (d : List ℕ) where
       let k = held_table d p b a s e h in
       listing_output d k.0 ∙ sym (table_text_lem d k.1) ∙ table_lines_lem p b a (part s e d) (sym k.1.rules ∙ k.0)
 
+  -- A refusal has the dump's number.
+  refused_is : (r : Refusal) → held d ≡ Err r → dump_refusal d ≡ number_of_refusal r
+  refused_is r e = sym (read_number d) ∙ ap (λ (x : Result Held Refusal). number_of (held_numbers x)) e
+
   refused_output : (r : Refusal) → held d ≡ Err r → program_output d ≡ joined line_of (lines_told d (Err r))
   unfolding program_output lines_told joined line_of shown each refused_line
   refused_output r e =
-      let k = held_number d r e in
       let n = number_of_refusal r in
-      rw (k.0, ne_eqb n 0 (λ z. omega (arith, k.1, z))) (sym (append-nil (refused_line n)))
+      rw (refused_is r e, ne_eqb n 0 (λ z. omega (arith, refusal_small r, z))) (sym (append-nil (refused_line n)))
 
   -- The lines that the program writes are those of the fields of what the dump reader answers.
   pub output_lines : program_output d ≡ joined line_of (lines_told d (held d))
@@ -384,7 +390,7 @@ module _ (d : List ℕ) where
       cases (Err r) e = refused_output r e
 
   refused_small : (r : Refusal) → held d ≡ Err r → number_of_refusal r < 19
-  refused_small r e = omega (arith, held_number d r e, dump_below d)
+  refused_small r e = omega (arith, refused_is r e, dump_below d)
 
   module _ (small : Bytes d) where
     -- Each of these fields is readable: its number is small enough for its digits, its name one of MPS Table 4-8.
