@@ -8,14 +8,14 @@ use mathlib.Core.Bool.{Bool, true, false, ◌&&◌}
 use mathlib.Core.List.{List, []}
 use native.Mathlib.Omega.{arith}
 use lib.Dec.{leb}
-use lib.ListN.{length, get_or}
+use lib.ListN.{length}
 use lib.Seq.{sets}
 use borrow.Author.Tests.{le-leb}
 use Rattle.mps.specs.Words.{among, each}
 use Rattle.mps.specs.Numbers.{le}
-use Rattle.mps.specs.Refusals.{refusal, room_number}
+use Rattle.mps.specs.Refusals.{refusal}
 use Rattle.mps.specs.Reasons.{refusal_numbered}
-use Rattle.mps.specs.Answers.{answered, found_of}
+use Rattle.mps.specs.Answers.{found_of}
 use Rattle.mps.specs.Rooms.{too_small, fitted, fit_left}
 use Rattle.mps.specs.Layout.{book_most, book_head, book_rows, book_row}
 use Rattle.mps.specs.Book.{BookLayout, layout1, latest, editions_run, bodies_at, book_of, rows_of, good_book, bad_book}

@@ -144,7 +144,7 @@ fn list(s: &[u8], rows: u16, out: &mut [u8])
     }
 }
 
-// A row, put at `place`.
+// A row, put at `place`: the last two numbers have four bytes each here, and two where `saving` writes a row of a book.
 #[tactic(auto, using(crate::proofs::Laws::row_put))]
 fn put_row(out: &mut [u8], place: usize, row: Row)
     requires { place + book_row history_width ≤ length out.old }

@@ -19,28 +19,39 @@ ghost use Rattle.editor.specs.Amended.{has, ends_at, enrolled_if, roll_for, come
 
 use mps::{Refusal, Sections, layout};
 
+// A table, and where its entries stand.
+#[derive(Clone, Copy)]
+struct Table<'a> {
+    t: &'a [u8],
+    p: Sections,
+    ghost placed: { Placed t.now p },
+}
+
 // What the judge would answer. The entry stands at `at`, and `old` was its ID.
 pub(super) fn judge(t: &[u8], p: Sections, at: usize, old: u8) -> Result<(), Refusal>
     requires { Amended t.now p at old }
     ensures { result ≡ judged t.now }
 {
+    let table = Table { t, p };
     match t[at] {
-        layout::PROCESSOR_TYPE => processor(t, p, old),
-        layout::BUS_TYPE => bus(t, p, old),
-        layout::IO_APIC_TYPE => io_apic(t, p, old),
-        layout::IO_INTERRUPT_TYPE => io_interrupt(t, p, at),
-        _ => local_interrupt(t, p, at),
+        layout::PROCESSOR_TYPE => processor(table, old),
+        layout::BUS_TYPE => bus(table, old),
+        layout::IO_APIC_TYPE => io_apic(table, old),
+        layout::IO_INTERRUPT_TYPE => io_interrupt(table, at),
+        _ => local_interrupt(table, at),
     }
 }
 
 // ---- Processors, buses and I/O APICs
 
-// 14, and 17 of local interrupts. The local APIC address is the header's, and stays.
+// 14, and 17 of local interrupts. The local APIC address is the header's, and stays. This and the next function stay two: what
+// they do alike are the calls, and one function would be told six things, two of them functions.
 #[tactic(auto, using(crate::proofs::Ways::by_14, crate::proofs::Ways::local_17, crate::proofs::Ways::cpu_past))]
-fn processor(t: &[u8], p: Sections, old: u8) -> Result<(), Refusal>
-    requires { (Placed t.now p) × (local_apic t.now % local_apic_step ≡ 0) }
-    ensures { result ≡ answered (refusal (processor_rules t.now old)) tt }
+fn processor(table: Table, old: u8) -> Result<(), Refusal>
+    requires { local_apic table.t.now % local_apic_step ≡ 0 }
+    ensures { result ≡ answered (refusal (processor_rules table.entry.t.now old)) tt }
 {
+    let Table { t, p } = table;
     let mut roll: [u8; 256] = [0; 256];
     roll::put(&mut roll, layout::EVERYONE, roll::TAKEN_MARKS);
     if apics::wrong_processors(&mut roll, &t[layout::HEADER_SIZE..p.buses]) {
@@ -54,10 +65,10 @@ fn processor(t: &[u8], p: Sections, old: u8) -> Result<(), Refusal>
 
 // 16, and 17 of I/O interrupts.
 #[tactic(auto, using(crate::proofs::Ways::by_16, crate::proofs::Ways::io_17, crate::proofs::Ways::apic_past))]
-fn io_apic(t: &[u8], p: Sections, old: u8) -> Result<(), Refusal>
-    requires { Placed t.now p }
-    ensures { result ≡ answered (refusal (io_apic_rules t.now old)) tt }
+fn io_apic(table: Table, old: u8) -> Result<(), Refusal>
+    ensures { result ≡ answered (refusal (io_apic_rules table.entry.t.now old)) tt }
 {
+    let Table { t, p } = table;
     let mut roll: [u8; 256] = [0; 256];
     roll::put(&mut roll, layout::EVERYONE, roll::TAKEN_MARKS);
     if apics::wrong_io_apics(&mut roll, &t[p.ioapics..p.interrupts]) {
@@ -80,10 +91,10 @@ fn ends_at_lost(roll: &[u8; 256], k: u8, s: &[u8], old: u8) -> bool
 
 // 15, and 17 and 18 of the entries that speak of a bus.
 #[tactic(auto, using(crate::proofs::Ways::by_15, crate::proofs::Ways::bus_stays, crate::proofs::Ways::by_17, crate::proofs::Ways::by_18, crate::proofs::Ways::past_18))]
-fn bus(t: &[u8], p: Sections, old: u8) -> Result<(), Refusal>
-    requires { Placed t.now p }
-    ensures { result ≡ answered (refusal (bus_rules t.now old)) tt }
+fn bus(table: Table, old: u8) -> Result<(), Refusal>
+    ensures { result ≡ answered (refusal (bus_rules table.entry.t.now old)) tt }
 {
+    let Table { t, p } = table;
     let mut roll: [u8; 256] = [0; 256];
     if buses::wrong(&mut roll, &t[p.buses..p.ioapics]) {
         return Err(Refusal::Buses);
@@ -91,21 +102,22 @@ fn bus(t: &[u8], p: Sections, old: u8) -> Result<(), Refusal>
     if roll::has(&roll, old, roll::BUS) {
         return Ok(());
     }
-    if comes_from(t, p, old) {
+    if comes_from(table, old) {
         return Err(Refusal::Interrupts);
     }
-    if speaks_of(t, p, old) {
+    if speaks_of(table, old) {
         return Err(Refusal::Spaces);
     }
     Ok(())
 }
 
-// Whether an interrupt of either side comes from a bus. All are looked for, by `|`, here and below: where the edit is done there is none.
+// Whether an interrupt of either side comes from a bus. All are looked for, by `|`, here and below: where the edit is done
+// there is none.
 #[tactic(auto, using(crate::proofs::Ways::comes_rows))]
-fn comes_from(t: &[u8], p: Sections, bus: u8) -> bool
-    requires { Placed t.now p }
-    ensures { result ≡ comes_from t.now bus }
+fn comes_from(table: Table, bus: u8) -> bool
+    ensures { result ≡ comes_from table.entry.t.now bus }
 {
+    let Table { t, p } = table;
     let interrupts = &t[p.interrupts..p.locals];
     let locals = &t[p.locals..p.mappings];
     any_has(interrupts, layout::ENTRY_SIZE, layout::SOURCE_BUS, bus)
@@ -114,10 +126,10 @@ fn comes_from(t: &[u8], p: Sections, bus: u8) -> bool
 
 // Whether an extended entry speaks of a bus, as its own or as a parent.
 #[tactic(auto, using(crate::proofs::Ways::speaks_rows))]
-fn speaks_of(t: &[u8], p: Sections, bus: u8) -> bool
-    requires { Placed t.now p }
-    ensures { result ≡ speaks_of t.now bus }
+fn speaks_of(table: Table, bus: u8) -> bool
+    ensures { result ≡ speaks_of table.entry.t.now bus }
 {
+    let Table { t, p } = table;
     let mappings = &t[p.mappings..p.links];
     let links = &t[p.links..p.modifiers];
     let modifiers = &t[p.modifiers..p.others];
@@ -129,12 +141,14 @@ fn speaks_of(t: &[u8], p: Sections, bus: u8) -> bool
 
 // ---- Interrupts
 
-// 17, by a roll that has no more than what the entry names.
+// 17, by a roll that has no more than what the entry names. The two sides stay two functions, as for 14 and 16: what they do
+// alike is `enroll_named`.
 #[tactic(auto, using(crate::proofs::Ways::entry_size_lem, crate::proofs::Ways::io_wrong_17, crate::proofs::Ways::io_right))]
-fn io_interrupt(t: &[u8], p: Sections, at: usize) -> Result<(), Refusal>
-    requires { (Placed t.now p) × (at + entry_size ≤ length t.now) }
-    ensures { result ≡ answered (refusal (io_interrupt_rules t.now (part at (at + entry_size) t.now))) tt }
+fn io_interrupt(table: Table, at: usize) -> Result<(), Refusal>
+    requires { at + entry_size ≤ length table.t.now }
+    ensures { result ≡ answered (refusal (io_interrupt_rules table.entry.t.now (part at (at + entry_size) table.entry.t.now))) tt }
 {
+    let Table { t, p } = table;
     let e = &t[at..at + layout::ENTRY_SIZE];
     let mut roll: [u8; 256] = [0; 256];
     enroll_named(
@@ -152,10 +166,11 @@ fn io_interrupt(t: &[u8], p: Sections, at: usize) -> Result<(), Refusal>
 }
 
 #[tactic(auto, using(crate::proofs::Ways::entry_size_lem, crate::proofs::Ways::local_wrong_17, crate::proofs::Ways::local_right))]
-fn local_interrupt(t: &[u8], p: Sections, at: usize) -> Result<(), Refusal>
-    requires { (Placed t.now p) × (at + entry_size ≤ length t.now) }
-    ensures { result ≡ answered (refusal (local_interrupt_rules t.now (part at (at + entry_size) t.now))) tt }
+fn local_interrupt(table: Table, at: usize) -> Result<(), Refusal>
+    requires { at + entry_size ≤ length table.t.now }
+    ensures { result ≡ answered (refusal (local_interrupt_rules table.entry.t.now (part at (at + entry_size) table.entry.t.now))) tt }
 {
+    let Table { t, p } = table;
     let e = &t[at..at + layout::ENTRY_SIZE];
     let mut roll: [u8; 256] = [0; 256];
     enroll_named(

@@ -119,7 +119,8 @@ fn few(s: &[u8], rows: u16) -> bool
     true
 }
 
-// The same by chains.
+// The same by chains. It stays beside `few`: one loop for both would be told how to find the latest edition, and this one has
+// two arrays to change in each turn.
 #[tactic(auto, using(crate::proofs::Laws::runs_done))]
 fn chains(s: &[u8], rows: u16) -> bool
     requires { rows ≤ rows_most }
@@ -151,6 +152,7 @@ fn chained(s: &[u8], before: &[u16; ROWS_MOST as usize], last: u16, machine: u16
     requires { (last ≤ rows_most) × Linked s.now before.now last × (last_in s.now (chain_of machine) last ≡ last) }
     ensures { result ≡ latest_of machine (rows_before layout1 s.now last) }
 {
+    // A list that is linked in an array, as there is no heap: no iterator goes along it.
     let mut k = last;
     while 0 < k {
         let passed = read(s, k - 1);

@@ -1,7 +1,7 @@
 -- The ways out of a save and of a restore: what has been tested and stored there, and the answer. Assumes nothing.
 use Rattle.std.specs.Prelude.{Option, Result, Ok, Err}
 use Rattle.std.specs.Option.{ok_or}
-use Rattle.std.proofs.Common.{◌*◌, ◌≡◌, ℕ, zero, suc, ◌+◌, ◌-◌, ◌≤◌, false, List, length, sym, refl, ◌∙◌, arith}
+use Rattle.std.proofs.Common.{◌*◌, ◌≡◌, ℕ, ◌+◌, ◌-◌, ◌≤◌, false, List, length, sym, refl, ◌∙◌, arith}
 use lib.Seq.{sets}
 use Rattle.mps.specs.Words.{among, each, part, first}
 use Rattle.mps.specs.Refusals.{refusal}

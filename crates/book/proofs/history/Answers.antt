@@ -1,5 +1,4 @@
 -- A bad book's refusal is the call's; 19 where the room is too small for a row each; else all rows.
-use native.Mathlib.Omega.{arith}
 use Rattle.std.proofs.lemmas.Result.{err_from_is_err_and}
 use Rattle.pages.proofs.Bytes.{readable1}
 use Rattle.book.proofs.Answering.{booked_measured, history_refused, history_short, history_put}

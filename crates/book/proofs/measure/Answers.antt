@@ -1,7 +1,6 @@
 -- Where the bodies end, and whether the editions run.
-use native.Mathlib.Omega.{arith}
 use Rattle.std.proofs.lemmas.Result.{err_from_is_err_and}
-use Rattle.book.proofs.Answering.{ends_nowhere, ends_running, ends_broken}
+use Rattle.book.proofs.Answering.{ends_nowhere}
 use Rattle.book.proofs.measure.Goals as goal
 
 pub returns-in_err-size : goal.returns-in_err-size
