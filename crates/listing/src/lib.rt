@@ -5,8 +5,8 @@
 // those of `full` in specs/Defaults.antt. A refusal leaves the room as it was.
 //
 // Nothing is written before it is known that all of it fits. Where the room holds the longest listing that such a table can
-// have, that is known at once; else the listing is measured first, by arithmetic. A line that stands alone is made twice
-// by the same function: first in no room at all, which only measures it, then in the room.
+// have, that is known at once; else the listing is measured first, by arithmetic. A line that stands alone is made outside
+// the room.
 #![tactic(auto)]
 
 ghost use Rattle.std.specs.Prelude.{◌≡◌, ℕ, ◌≤◌, ◌<◌, length};
@@ -23,6 +23,17 @@ ghost use Rattle.mps.specs.Rooms.{fitted_bytes, fit_left};
 ghost use Rattle.listing.specs.Texts.{table_text, frame_length, entries_text};
 
 use mps::{Held, Refusal, layout};
+
+// No line that stands alone is longer.
+const LINE_MOST: usize = 64;
+
+// What a listing says in front of its table: where the pointer stands, its IMCR bit, and the table's address.
+#[derive(Clone, Copy)]
+struct Head {
+    pointer: u32,
+    imcr: u8,
+    address: u32,
+}
 
 // The place behind an entry that stands at a place of an accepted table: what the reader would answer there. The base's end is
 // handed in, since the header would be read anew behind every store into the room.
@@ -60,16 +71,16 @@ fn put_entries(out: &mut [u8], at: usize, t: &[u8]) -> usize
 }
 
 // The whole listing of an accepted table, from the first byte of the room.
-fn put_table(out: &mut [u8], t: &[u8], pointer: u32, imcr: u8, address: u32) -> usize
+fn put_table(out: &mut [u8], t: &[u8], head: Head) -> usize
     requires { table_refusal t.now ≡ 0 }
-    ensures value { result ≡ length (table_text pointer imcr address t.now) }
-    ensures out_after { out.new ≡ sets out.old 0 (table_text pointer imcr address t.now) }
+    ensures value { result ≡ length (table_text head.pointer head.imcr head.address t.now) }
+    ensures out_after { out.new ≡ sets out.old 0 (table_text head.pointer head.imcr head.address t.now) }
 {
     let base = lengths::base(t);
     let extended = lengths::extended(t);
     let count = lengths::count(t);
-    let a = lines::frame::pointer(out, 0, pointer, imcr);
-    let b = a + lines::frame::table(out, a, address, base, extended, count);
+    let a = lines::frame::pointer(out, 0, head.pointer, head.imcr);
+    let b = a + lines::frame::table(out, a, head.address, base, extended, count);
     let c = put_entries(out, b, t);
     c + lines::frame::end(out, c)
 }
@@ -134,53 +145,36 @@ fn bound(t: &[u8]) -> usize
 }
 
 // A room that holds the longest is enough without measuring.
-fn list_table(
-    t: &[u8],
-    pointer: u32,
-    imcr: u8,
-    address: u32,
-    out: &mut [u8],
-) -> Result<usize, Refusal>
+fn list_table(t: &[u8], head: Head, out: &mut [u8]) -> Result<usize, Refusal>
     requires { table_refusal t.now ≡ 0 }
-    ensures value { result ≡ fitted_bytes (table_text pointer imcr address t.now) out.old }
-    ensures out_after { out.new ≡ fit_left (table_text pointer imcr address t.now) out.old }
+    ensures value { result ≡ fitted_bytes (table_text head.pointer head.imcr head.address t.now) out.old }
+    ensures out_after { out.new ≡ fit_left (table_text head.pointer head.imcr head.address t.now) out.old }
 {
-    if bound(t) <= out.len() {
-        return Ok(put_table(out, t, pointer, imcr, address));
-    }
-    list_measured(t, pointer, imcr, address, out)
-}
-
-// Elsewhere it is measured.
-fn list_measured(
-    t: &[u8],
-    pointer: u32,
-    imcr: u8,
-    address: u32,
-    out: &mut [u8],
-) -> Result<usize, Refusal>
-    requires { table_refusal t.now ≡ 0 }
-    ensures value { result ≡ fitted_bytes (table_text pointer imcr address t.now) out.old }
-    ensures out_after { out.new ≡ fit_left (table_text pointer imcr address t.now) out.old }
-{
-    let size = table_width(t, imcr);
-    if out.len() < size {
+    if out.len() < bound(t) && out.len() < table_width(t, head.imcr) {
         return Err(Refusal::RoomTooSmall);
     }
-    put_table(out, t, pointer, imcr, address);
-    Ok(size)
+    Ok(put_table(out, t, head))
+}
+
+// A line that stands alone.
+fn list_line(line: &[u8], out: &mut [u8]) -> Result<usize, Refusal>
+    ensures value { result ≡ fitted_bytes line.now out.old }
+    ensures out_after { out.new ≡ fit_left line.now out.old }
+{
+    if out.len() < line.len() {
+        return Err(Refusal::RoomTooSmall);
+    }
+    out[..line.len()].copy_from_slice(line);
+    Ok(line.len())
 }
 
 fn list_default(number: u8, imcr: u8, out: &mut [u8]) -> Result<usize, Refusal>
     ensures value { result ≡ fitted_bytes (default_line number imcr) out.old }
     ensures out_after { out.new ≡ fit_left (default_line number imcr) out.old }
 {
-    let size = lines::frame::default(&mut out[..0], 0, number, imcr);
-    if out.len() < size {
-        return Err(Refusal::RoomTooSmall);
-    }
-    lines::frame::default(out, 0, number, imcr);
-    Ok(size)
+    let mut line = [0; LINE_MOST];
+    let size = lines::frame::default(&mut line, 0, number, imcr);
+    list_line(&line[..size], out)
 }
 
 // A default's table stands nowhere: it is made here, and its address is 0.
@@ -190,19 +184,21 @@ fn list_made(number: u8, boot: u8, pointer: u32, imcr: u8, out: &mut [u8]) -> Re
 {
     let mut made = [0; layout::DEFAULT_TABLE_MOST];
     let size = defaults::make(number, boot, &mut made)?;
-    list_table(&made[..size], pointer, imcr, 0, out)
+    let head = Head {
+        pointer,
+        imcr,
+        address: 0,
+    };
+    list_table(&made[..size], head, out)
 }
 
 fn print_refused(number: u8, out: &mut [u8]) -> Result<usize, Refusal>
     ensures value { result ≡ fitted_bytes (refused_line number) out.old }
     ensures out_after { out.new ≡ fit_left (refused_line number) out.old }
 {
-    let width = lines::frame::refused(&mut out[..0], 0, number);
-    if out.len() < width {
-        return Err(Refusal::RoomTooSmall);
-    }
-    lines::frame::refused(out, 0, number);
-    Ok(width)
+    let mut line = [0; LINE_MOST];
+    let size = lines::frame::refused(&mut line, 0, number);
+    list_line(&line[..size], out)
 }
 
 // How many bytes of the listing stand in the room, or why it is refused.
@@ -218,7 +214,14 @@ pub fn list(d: &[u8], out: &mut [u8]) -> Result<usize, Refusal>
             address,
             start,
             end,
-        } => list_table(&d[start..end], pointer, imcr, address, out),
+        } => {
+            let head = Head {
+                pointer,
+                imcr,
+                address,
+            };
+            list_table(&d[start..end], head, out)
+        }
     }
 }
 
@@ -236,7 +239,14 @@ pub fn full(d: &[u8], boot: u8, out: &mut [u8]) -> Result<usize, Refusal>
             address,
             start,
             end,
-        } => list_table(&d[start..end], pointer, imcr, address, out),
+        } => {
+            let head = Head {
+                pointer,
+                imcr,
+                address,
+            };
+            list_table(&d[start..end], head, out)
+        }
     }
 }
 

@@ -11,9 +11,9 @@ use Rattle.listing.proofs.put_table.Goals.{After-table}
 front : (c : After-table) → (c.table.result ≤ 48) × (c.pointer-a.result ≤ 48)
 front c =
     let a = c.args in
-    let head = table_most a.address c.base-base.result c.extended-extended.result c.count-count.result in (
+    let head = table_most a.head.address c.base-base.result c.extended-extended.result c.count-count.result in (
       omega (arith, head, c.table.ensures.value),
-      omega (arith, pointer_most a.pointer a.imcr, c.pointer-a.ensures.value),
+      omega (arith, pointer_most a.head.pointer a.head.imcr, c.pointer-a.ensures.value),
     )
 
 pub overflow_add-b : goal.overflow_add-b
@@ -36,7 +36,7 @@ overflow_add-result c =
 pub returns : goal.returns
 returns c =
     let a = c.args in
-    let both = table_is a.pointer a.imcr a.address a.t.now
+    let both = table_is a.head.pointer a.head.imcr a.head.address a.t.now
     c.base-base.ensures c.extended-extended.ensures c.count-count.ensures
     (record { place = omega (arith, c.pointer-a.ensures.value); text = c.pointer-a.ensures.out_after })
     (record { place = omega (arith, c.table.ensures.value); text = c.table.ensures.out_after })
