@@ -1,12 +1,9 @@
 // The calls of the C interface: what each kind takes of the request's numbers and slices. A later call is one more `Kind`,
 // with its letter, and one arm of `call`. Of the slices `a` is the first, `m` the three in the middle, `e` the last.
-ghost use Rattle.std.specs.Prelude.{◌≡◌, length};
-ghost use Rattle.answers.specs.Wire.{middle_of};
-
 use crate::end::End;
 use crate::reply;
 use crate::reply::Answer;
-use crate::request::Head;
+use crate::request::{Head, Middle};
 
 #[derive(Clone, Copy)]
 pub enum Kind {
@@ -67,41 +64,26 @@ impl TryFrom<u8> for Kind {
 // The low byte of what C gets: the refusal's number.
 const NUMBER: u64 = 256;
 
-#[tactic(auto, unfolding(crate::specs::Wire::middle_of))]
-fn written(q: &Head, base: &[u8], m: &[u8], room: &mut [u8]) -> u64
-    requires { middle_of q.now ≡ length m.now }
-{
-    let oem = q.length(1);
-    let product = oem + q.length(2);
+fn written(q: &Head, base: &[u8], m: Middle, room: &mut [u8]) -> u64 {
     exports::ruxtajma_write(
-        &m[oem..product],
-        &m[product..],
+        m.third,
+        m.fourth,
         q.low32(0),
         q.low16(1),
         q.low32(2),
         q.low8(3),
         base,
-        &m[0..oem],
+        m.second,
         room,
     )
 }
 
-#[tactic(auto, unfolding(crate::specs::Wire::middle_of))]
-fn edited(q: &Head, t: &mut [u8], m: &[u8]) -> u64
-    requires { middle_of q.now ≡ length m.now }
-{
-    let wanted = q.length(1);
-    let end = wanted + q.length(2);
-    exports::ruxtajma_edit(t, q.number(0) as usize, &m[0..wanted], &m[wanted..end])
+fn edited(q: &Head, t: &mut [u8], m: Middle) -> u64 {
+    exports::ruxtajma_edit(t, q.number(0) as usize, m.second, m.third)
 }
 
-// The body is the first of the slices in the middle.
-#[tactic(auto, unfolding(crate::specs::Wire::middle_of))]
-fn saved(q: &Head, room: &mut [u8], m: &[u8]) -> u64
-    requires { middle_of q.now ≡ length m.now }
-{
-    let end = q.length(1);
-    exports::ruxtajma_save(room, q.low16(0), q.low16(1), &m[0..end])
+fn saved(q: &Head, room: &mut [u8], body: &[u8]) -> u64 {
+    exports::ruxtajma_save(room, q.low16(0), q.low16(1), body)
 }
 
 fn restored(q: &Head, room: &mut [u8]) -> u64 {
@@ -116,9 +98,7 @@ fn parted(t: &[u8]) -> Answer {
     reply::with_fields(parts, writer::fields(t))
 }
 
-pub fn call(kind: Kind, q: &Head, a: &mut [u8], m: &[u8], e: &mut [u8]) -> Answer
-    requires { middle_of q.now ≡ length m.now }
-{
+pub fn call(kind: Kind, q: &Head, a: &mut [u8], m: Middle, e: &mut [u8]) -> Answer {
     let x = q.low8(0);
     let y = q.low8(1);
     let z = q.low8(2);
@@ -142,7 +122,7 @@ pub fn call(kind: Kind, q: &Head, a: &mut [u8], m: &[u8], e: &mut [u8]) -> Answe
         Kind::Latest => reply::one(exports::ruxtajma_latest(a, q.low16(0))),
         Kind::Body => reply::one(exports::ruxtajma_body(a, q.low16(0), q.low16(1))),
         Kind::History => reply::one(exports::ruxtajma_history(a, e)),
-        Kind::Save => reply::one(saved(q, a, m)),
+        Kind::Save => reply::one(saved(q, a, m.second)),
         Kind::Restore => reply::one(restored(q, a)),
     }
 }

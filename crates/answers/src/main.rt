@@ -50,7 +50,7 @@ fn answer<R: Read, W: Write>(
     request::fill(input, a)?;
     request::fill(input, m)?;
     request::fill(input, e)?;
-    let r = calls::call(kind, q, a, m, e);
+    let r = calls::call(kind, q, a, request::parted(q, m), e);
     reply::write(output, r, q, a, m, e).map_err(|_| End::NotWritten)
 }
 

@@ -1,5 +1,5 @@
 // A request as it comes in. Its head stays as its bytes, and a call takes of it what it has use for.
-ghost use Rattle.std.specs.Prelude.{◌≡◌, ◌+◌, ◌*◌, ◌<◌, ◌^◌};
+ghost use Rattle.std.specs.Prelude.{◌≡◌, ◌+◌, ◌*◌, ◌<◌, ◌^◌, length};
 ghost use Rattle.answers.specs.Wire.{length_of, middle_of};
 
 use crate::end::End;
@@ -84,5 +84,26 @@ impl Head {
         ensures { result ≡ middle_of self.now }
     {
         self.length(1) + self.length(2) + self.length(3)
+    }
+}
+
+// The three slices in the middle: the second, third and fourth of a request.
+#[derive(Clone, Copy)]
+pub struct Middle<'a> {
+    pub second: &'a [u8],
+    pub third: &'a [u8],
+    pub fourth: &'a [u8],
+}
+
+#[tactic(auto, unfolding(crate::specs::Wire::middle_of))]
+pub fn parted<'a>(q: &Head, m: &'a [u8]) -> Middle<'a>
+    requires { middle_of q.now ≡ length m.now }
+{
+    let (second, rest) = m.split_at(q.length(1));
+    let (third, fourth) = rest.split_at(q.length(2));
+    Middle {
+        second,
+        third,
+        fourth,
     }
 }
