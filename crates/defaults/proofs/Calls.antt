@@ -15,11 +15,14 @@ use Rattle.mps.specs.Layout.{part_most, default_most, boot_most}
 use Rattle.mps.specs.Writing.{base_size, image_size, written, write_left}
 use Rattle.mps.specs.Defaults.{default_fields, default_parts, default_table, no_default, make_refusal, made, make_left}
 use Rattle.mps.specs.declared.Fields.{Fields}
-use Rattle.mps.specs.declared.Lent.{Lent}
-use Rattle.mps.specs.declared.Lent.TheVariants.{Count, Refused}
+use Rattle.std.specs.Prelude.{Result, Ok, Err}
+use Rattle.mps.specs.Reasons.{refusal_numbered}
+use Rattle.mps.specs.declared.refusals.Refusal.{Refusal}
+use Rattle.mps.specs.declared.refusals.Refusal.TheVariants.{NoDefault}
+use Rattle.laws.proofs.Answers.{answered_ok, given_ok, given_err}
 use Rattle.laws.proofs.Tests.{whether, and_parts, or_parts}
 use Rattle.laws.proofs.Refusals.{refusal_pass}
-use Rattle.laws.proofs.Lent.{lent_early, lent_none, left_kept, left_put, lent_refused, count_given, refused_given, fits, fit_put, fit_short, fit_late}
+use Rattle.laws.proofs.Lent.{lent_early, lent_none, left_kept, left_put, fits, fit_put, fit_short, fit_late}
 use Rattle.laws.proofs.Stores.{sets_at_start}
 use Rattle.writer.specs.Laid.{parts_given}
 use Rattle.writer.proofs.Laws.{length_image}
@@ -60,12 +63,12 @@ module _ (answer : List ℕ) (n boot : ℕ) (room : List ℕ) where
   unfolding offer_refusal refusal among each
   offer_thirty e = lent_early (offer_rules n boot) refl (too_small (length answer) room) (rw e) (λ q. omega (arith, q))
 
-  pub offer_none : no_default n boot ≡ true → (Refused 30 ≡ offered answer n boot room) × (room ≡ offer_left answer n boot room)
-  unfolding offered offer_left
+  pub offer_none : no_default n boot ≡ true → (Err NoDefault ≡ offered answer n boot room) × (room ≡ offer_left answer n boot room)
+  unfolding offered offer_left refusal_numbered
   offer_none e =
       let z : default_number ≡ 0 → ⊥ = λ q. omega (arith, q) in
       let k = offer_thirty e in
-      (rw k (lent_refused 30 (length answer) z), rw k (sym (left_kept 30 answer room z)))
+      (rw k, rw k (sym (left_kept 30 answer room z)))
 
   by_room : There n boot → offer_refusal answer n boot room ≡ room_refusal answer room
   unfolding offer_refusal refusal among each
@@ -83,20 +86,11 @@ module _ (n boot : ℕ) (room : List ℕ) where
   unfolding made make_left make_refusal offered offer_left offer_refusal
   made_offered = (refl, refl)
 
-  none_made : no_default n boot ≡ true → (Refused 30 ≡ made n boot room) × (room ≡ make_left n boot room)
+  pub none_made : no_default n boot ≡ true → (Err NoDefault ≡ made n boot room) × (room ≡ make_left n boot room)
   none_made e =
       let f = offer_none (default_table n boot) n boot room e in
       let g = made_offered in
       (f.0 ∙ g.0, f.1 ∙ g.1)
-
-  pub make_zero : n ≡ 0 → (Refused 30 ≡ made n boot room) × (room ≡ make_left n boot room)
-  make_zero e = none_made (no_zero n boot e)
-
-  pub make_more : default_most < n → (Refused 30 ≡ made n boot room) × (room ≡ make_left n boot room)
-  make_more h = none_made (no_more n boot h)
-
-  pub make_boot : boot_most < boot → (Refused 30 ≡ made n boot room) × (room ≡ make_left n boot room)
-  make_boot h = none_made (no_boot n boot h)
 
 -- ---- Of one that there is it is what the writer makes
 
@@ -125,9 +119,9 @@ module _ {n boot : ℕ} (h : There n boot) (room : List ℕ) where
       (sym w.0 ∙ s.0 ∙ f.0, sym w.1 ∙ s.1 ∙ f.1))
       (λ q.
       let l = ltb-false _ _ q in
-      let w = write_done p room b x (rw size at l) (sym (there_accepted h)) refl refl in
+      let w = write_done p room b x (rw size at l) (answered_ok _ tt (there_accepted h)) refl refl in
       let s = fit_put t (length t) room refl l refl in (
-        sym w.0 ∙ ap Count (sym size) ∙ s.0 ∙ f.0,
+        sym w.0 ∙ ap Ok (sym size) ∙ s.0 ∙ f.0,
         sym w.1 ∙ ap (λ (k : ℕ). t ++ drop k room) (sym size) ∙ sym (sets_at_start room t l) ∙ s.1 ∙ f.1,
       ))
 
@@ -147,7 +141,7 @@ module _ {n boot : ℕ} (h : There n boot) (room : List ℕ) where
 
   -- What the writer is handed, and makes of it.
   pub make_written :
-      {size : ℕ} {v : List ℕ} {fields : Fields} {base extended : List ℕ} {r : Lent} {u : List ℕ}
+      {size : ℕ} {v : List ℕ} {fields : Fields} {base extended : List ℕ} {r : Result ℕ Refusal} {u : List ℕ}
       → size ≡ length (laid n boot) → v ≡ sets (replicate 208 0) 0 (laid n boot) → fields ≡ default_fields
       → base ≡ take size v → extended ≡ []
       → (r ≡ written (parts_given fields base extended) room) × (u ≡ write_left (parts_given fields base extended) room)
@@ -172,26 +166,26 @@ pub make_most : (n boot : ℕ) (room : List ℕ) → make_refusal n boot room �
 make_most n boot room e = there_most (made_there n boot room e)
 
 -- In a room that holds every one, nothing but 30 is refused;
-pub made_refused : (n boot : ℕ) (room : List ℕ) {k : ℕ} → 252 ≤ length room → Refused k ≡ made n boot room → (k ≡ 30) × (no_default n boot ≡ true)
-unfolding made make_refusal offer_refusal
+pub made_refused : (n boot : ℕ) (room : List ℕ) {r : Refusal} → 252 ≤ length room → Err r ≡ made n boot room → (r ≡ NoDefault) × (no_default n boot ≡ true)
+unfolding made make_refusal offer_refusal refusal_numbered
 made_refused n boot room h e =
     let t = default_table n boot in
-    let g = refused_given (make_refusal n boot room) _ e in
+    let g = given_err (make_refusal n boot room) _ e in
     whether (no_default n boot)
-    (λ q. (sym g.1 ∙ offer_thirty t n boot room q, q))
+    (λ q. (g.1 ∙ ap refusal_numbered (offer_thirty t n boot room q), q))
     (λ f.
     let there = there_is n boot f in
     let none = by_room t n boot room there ∙ fits t room (omega (arith, there_most there, h)) in
-    absurd (omega (arith, g, none)))
+    absurd (g.0 none))
 
 -- and what is counted is the table.
 pub made_counted :
-    (n boot : ℕ) (room : List ℕ) {k : ℕ} {u : List ℕ} → Count k ≡ made n boot room → u ≡ make_left n boot room
+    (n boot : ℕ) (room : List ℕ) {k : ℕ} {u : List ℕ} → Ok k ≡ made n boot room → u ≡ make_left n boot room
     → There n boot × (k ≤ length u) × (take k u ≡ default_table n boot)
 unfolding made make_left
 made_counted n boot room {k} {u} e w =
     let t = default_table n boot in
-    let g = count_given (make_refusal n boot room) _ e in
+    let g = given_ok (make_refusal n boot room) _ e in
     let u-is : u ≡ put t room = w ∙ ap (λ (m : ℕ). lent_left m t room) g.0 ∙ left_put t room in (
       made_there n boot room g.0,
       omega (arith, ap length u-is, length-append t (drop (length t) room), g.1),

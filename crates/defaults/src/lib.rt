@@ -14,7 +14,7 @@ ghost use Rattle.mps.specs.Words.{flag};
 ghost use Rattle.mps.specs.Defaults.{processor_entry, io_apic_entry, made, make_left};
 ghost use Rattle.defaults.specs.Laid.{apic_of, first_bus, buses_laid, all_inputs, inputs_of2, inputs_of7, inputs_laid, front_laid, laid};
 
-use mps::{Fields, Lent, layout};
+use mps::{Fields, Refusal, layout};
 
 const BASE_MOST: usize = layout::DEFAULT_TABLE_MOST - layout::HEADER_SIZE;
 
@@ -59,24 +59,16 @@ const INPUTS: [u8; 128] = *b"\
 // Table 5-3: the 8259A's INTR at LINTIN0 and NMI at LINTIN1, of all local APICs.
 const LOCALS: [u8; 16] = *b"\x04\x03\x00\x00\x00\x00\xff\x00\x04\x01\x00\x00\x00\x00\xff\x01";
 
-pub fn make(number: u8, boot: u8, room: &mut [u8]) -> Lent
+pub fn make(number: u8, boot: u8, room: &mut [u8]) -> Result<usize, Refusal>
     ensures value { result ≡ made number boot room.old }
     ensures room_after { room.new ≡ make_left number boot room.old }
 {
-    if number == 0 {
-        return Lent::Refused(30);
-    }
-    if layout::DEFAULT_MOST < number {
-        return Lent::Refused(30);
-    }
-    if layout::BOOT_MOST < boot {
-        return Lent::Refused(30);
+    if number == 0 || layout::DEFAULT_MOST < number || layout::BOOT_MOST < boot {
+        return Err(Refusal::NoDefault);
     }
     let mut base = [0; BASE_MOST];
     let size = lay(&mut base, number, boot);
-    // No extended entry; of one array that is lent no second part can be.
-    let none = [0; 1];
-    writer::write(FIELDS, &base[..size], &none[..0], room)
+    writer::write(FIELDS, &base[..size], &[], room)
 }
 
 // The base entries, from the first byte on. Answers their length.
@@ -86,8 +78,7 @@ fn lay(out: &mut [u8], number: u8, boot: u8) -> usize
 {
     let front = put_front(out, number, boot);
     let end = put_inputs(out, front, number);
-    let locals = LOCALS;
-    slices::copy(out, end, &locals);
+    slices::copy(out, end, &LOCALS);
     end + 2 * layout::ENTRY_SIZE
 }
 
@@ -99,28 +90,23 @@ fn put_front(out: &mut [u8], number: u8, boot: u8) -> usize
     let apic = version(number);
     put_processors(out, apic, boot);
     let end = put_buses(out, 2 * layout::PROCESSOR_SIZE, number);
-    let chip = io_apic(apic);
-    slices::copy(out, end, &chip);
+    slices::copy(out, end, &io_apic(apic));
     end + layout::ENTRY_SIZE
 }
 
 // The 82489DX in 1 to 4, the integrated APIC in 5 to 7.
+#[tactic(auto, unfolding(crate::specs::Laid::apic_of))]
 fn version(number: u8) -> u8
     ensures { result ≡ apic_of number }
 {
-    if number < 5 {
-        return 0x01;
-    }
-    0x10
+    if number < 5 { 0x01 } else { 0x10 }
 }
 
 fn put_processors(out: &mut [u8], apic: u8, boot: u8)
     ensures { out.new ≡ sets out.old 0 (processor_entry apic boot 0 ++ processor_entry apic boot 1) }
 {
-    let first = processor(apic, boot, 0);
-    slices::copy(out, 0, &first);
-    let second = processor(apic, boot, 1);
-    slices::copy(out, layout::PROCESSOR_SIZE, &second);
+    slices::copy(out, 0, &processor(apic, boot, 0));
+    slices::copy(out, layout::PROCESSOR_SIZE, &processor(apic, boot, 1));
 }
 
 fn processor(apic: u8, boot: u8, id: u8) -> [u8; 20]
@@ -137,10 +123,7 @@ fn processor(apic: u8, boot: u8, id: u8) -> [u8; 20]
 fn flags(boot: u8, id: u8) -> u8
     ensures { result ≡ 1 + 2 * flag (eqb id boot) }
 {
-    if id == boot {
-        return 3;
-    }
-    1
+    1 + 2 * u8::from(id == boot)
 }
 
 // Table 5-1, "Bus Type". The bound on the place keeps sums below 2^64, here and below; a larger one would do as well.
@@ -149,13 +132,11 @@ fn put_buses(out: &mut [u8], at: usize, number: u8) -> usize
     ensures value { result ≡ at + length (buses_laid number) }
     ensures out_after { out.new ≡ sets out.old at (buses_laid number) }
 {
-    let first = first_bus(number);
-    slices::copy(out, at, &first);
+    slices::copy(out, at, &first_bus(number));
     if number < 5 {
         return at + layout::ENTRY_SIZE;
     }
-    let second = PCI;
-    slices::copy(out, at + layout::ENTRY_SIZE, &second);
+    slices::copy(out, at + layout::ENTRY_SIZE, &PCI);
     at + 2 * layout::ENTRY_SIZE
 }
 
@@ -194,8 +175,7 @@ fn put_all_inputs(out: &mut [u8], at: usize) -> usize
     ensures value { result ≡ at + length all_inputs }
     ensures out_after { out.new ≡ sets out.old at all_inputs }
 {
-    let inputs = INPUTS;
-    slices::copy(out, at, &inputs);
+    slices::copy(out, at, &INPUTS);
     at + 16 * layout::ENTRY_SIZE
 }
 
@@ -205,10 +185,9 @@ fn put_inputs_of_2(out: &mut [u8], at: usize) -> usize
     ensures value { result ≡ at + length inputs_of2 }
     ensures out_after { out.new ≡ sets out.old at inputs_of2 }
 {
-    let inputs = INPUTS;
-    slices::copy(out, at, &inputs[..16]);
-    slices::copy(out, at + 16, &inputs[24..104]);
-    slices::copy(out, at + 96, &inputs[112..]);
+    slices::copy(out, at, &INPUTS[..16]);
+    slices::copy(out, at + 16, &INPUTS[24..104]);
+    slices::copy(out, at + 96, &INPUTS[112..]);
     at + 14 * layout::ENTRY_SIZE
 }
 
@@ -218,7 +197,6 @@ fn put_inputs_of_7(out: &mut [u8], at: usize) -> usize
     ensures value { result ≡ at + length inputs_of7 }
     ensures out_after { out.new ≡ sets out.old at inputs_of7 }
 {
-    let inputs = INPUTS;
-    slices::copy(out, at, &inputs[8..]);
+    slices::copy(out, at, &INPUTS[8..]);
     at + 15 * layout::ENTRY_SIZE
 }

@@ -1,5 +1,5 @@
 -- The full listing: what is made and listed of a default, and what the call answers and leaves. Assumes nothing.
-use Prim.Native.Nat.{ℕ, ◌≤◌, ◌<◌}
+use Prim.Native.Nat.{ℕ, ◌≤◌}
 use mathlib.Core.Path.{◌≡◌, refl, sym, ◌∙◌}
 use mathlib.Core.Bool.{true, false, cond}
 use mathlib.Core.List.{List, [], ◌∷◌, ◌++◌, append_assoc}
@@ -14,11 +14,13 @@ use Rattle.mps.specs.Judge.{pointer_rules, table_rules, dump_rules, dump_refusal
 use Rattle.mps.specs.Listing.{listing, list_refusal, listed, list_left}
 use Rattle.mps.specs.Defaults.{default_table, made, make_left, default_of, wrong_boot, full_listing, full_rules, full_refusal, full_listed, full_left}
 use Rattle.mps.specs.declared.Held.TheVariants.{Default}
-use Rattle.mps.specs.declared.Lent.{Lent}
-use Rattle.mps.specs.declared.Lent.TheVariants.{Count, Refused}
+use Rattle.std.specs.Prelude.{Result, Ok, Err}
+use Rattle.mps.specs.Reasons.{refusal_numbered}
+use Rattle.mps.specs.declared.refusals.Refusal.{Refusal}
+use Rattle.laws.proofs.Answers.{answered_err}
 use Rattle.laws.proofs.Tests.{whether}
 use Rattle.laws.proofs.Refusals.{number, first_some, first_none, refusal_append, refusal_pass, row_passed}
-use Rattle.laws.proofs.Lent.{lent_early, lent_none, left_kept, lent_refused}
+use Rattle.laws.proofs.Lent.{lent_early, lent_none, left_kept}
 use Rattle.dump.proofs.Laws.{Pointed, held_none, held_default, passed_sound}
 use Rattle.defaults.proofs.Laws.{there_accepted}
 use Rattle.defaults.proofs.Calls.{there_is, offer_none, offer_fits, made_refused, made_counted}
@@ -31,13 +33,13 @@ use Rattle.listing.proofs.Longest.{listing_most, table_longest}
 -- ---- A default's table, made and listed
 
 -- What making it answers, in a room that holds every table.
-pub list_unmade : (w : List ℕ) (n boot : ℕ) (room : List ℕ) {k : ℕ} → Refused k ≡ made n boot (replicate 252 0)
-    → (Refused k ≡ offered w n boot room) × (room ≡ offer_left w n boot room)
+pub list_unmade : (w : List ℕ) (n boot : ℕ) (room : List ℕ) {r : Refusal} → Err r ≡ made n boot (replicate 252 0)
+    → (Err r ≡ offered w n boot room) × (room ≡ offer_left w n boot room)
 list_unmade w n boot room e =
     let q = made_refused n boot (replicate 252 0) (omega (arith, length-replicate {A = ℕ} 252 0)) e in
     rw q.0 (offer_none w n boot room q.1)
 
-module _ (n boot : ℕ) {k : ℕ} {u : List ℕ} (e : Count k ≡ made n boot (replicate 252 0)) (v : u ≡ make_left n boot (replicate 252 0)) where
+module _ (n boot : ℕ) {k : ℕ} {u : List ℕ} (e : Ok k ≡ made n boot (replicate 252 0)) (v : u ≡ make_left n boot (replicate 252 0)) where
   pub made_inside : k ≤ length u
   made_inside = (made_counted n boot (replicate 252 0) e v).1
 
@@ -45,7 +47,7 @@ module _ (n boot : ℕ) {k : ℕ} {u : List ℕ} (e : Count k ≡ made n boot (r
   made_accepted = let c = made_counted n boot (replicate 252 0) e v in rw c.2 (there_accepted c.0)
 
   pub list_made_lem :
-      (pointer imcr : ℕ) (room : List ℕ) {r : Lent} {x : List ℕ} → let w = table_text pointer imcr 0 (take k u) in
+      (pointer imcr : ℕ) (room : List ℕ) {r : Result ℕ Refusal} {x : List ℕ} → let w = table_text pointer imcr 0 (take k u) in
       (r ≡ fitted_bytes w room) × (x ≡ fit_left w room)
       → let t = table_text pointer imcr 0 (default_table n boot) in (r ≡ offered t n boot room) × (x ≡ offer_left t n boot room)
   list_made_lem pointer imcr room q =
@@ -68,12 +70,14 @@ unfolding full_rules dump_rules pointer_rules table_rules among each
 full_given d boot = whether (is_default d) (λ t. rw t refl) (λ f. rw f refl)
 
 module _ (d : List ℕ) (boot : ℕ) (room : List ℕ) where
-  pub full_refused : (n : ℕ) → dump_refusal d ≡ n → 0 < n → (Refused n ≡ full_listed d boot room) × (room ≡ full_left d boot room)
+  pub full_refused :
+      {r : Refusal} → (dump_refusal d ≡ 0 → ⊥) → r ≡ refusal_numbered (dump_refusal d)
+      → (Err r ≡ full_listed d boot room) × (room ≡ full_left d boot room)
   unfolding full_listed full_left full_refusal
-  full_refused n e p =
-      let z : n ≡ 0 → ⊥ = λ q. omega arith in
-      let k : full_refusal d boot room ≡ n = lent_early (full_rules d boot) (full_given d boot) _ (full_number d boot ∙ rw e (first_some n _ z)) z in
-      (rw k (lent_refused n _ z), rw k (sym (left_kept n _ room z)))
+  full_refused z q =
+      let n = dump_refusal d in
+      let k : full_refusal d boot room ≡ n = lent_early (full_rules d boot) (full_given d boot) _ (full_number d boot ∙ first_some n _ z) z in
+      (rw k (answered_err n _ z q), rw k (sym (left_kept n _ room z)))
 
 -- Of a dump that is accepted.
 module _ (d : List ℕ) (boot : ℕ) (room : List ℕ) (e : dump_refusal d ≡ 0) where
@@ -92,7 +96,7 @@ module _ (d : List ℕ) (boot : ℕ) (room : List ℕ) (e : dump_refusal d ≡ 0
         rw (text_is, a, q, e, t, ← f)
 
     pub full_made :
-        {r : Lent} {u : List ℕ} → let w = table_text p b 0 (default_table n boot) in
+        {r : Result ℕ Refusal} {u : List ℕ} → let w = table_text p b 0 (default_table n boot) in
         (r ≡ offered w n boot room) × (u ≡ offer_left w n boot room) → (r ≡ full_listed d boot room) × (u ≡ full_left d boot room)
     unfolding offered offer_left full_listed full_left
     full_made q = (rw (refusal_is, text_is) at q.0, rw (refusal_is, text_is) at q.1)
@@ -102,8 +106,8 @@ accepted_pointer : (d : List ℕ) → dump_refusal d ≡ 0 → cond (sound_dump 
 accepted_pointer d e = rw (passed_sound d (held_none d e))
 
 pub full_default :
-    (d : List ℕ) (boot : ℕ) (room : List ℕ) {p n b : ℕ} → Default n b ≡ held d → p ≡ cond (sound_dump d) (pointer d).address 0
-    → {r : Lent} {u : List ℕ} → let w = table_text p b 0 (default_table n boot) in
+    (d : List ℕ) (boot : ℕ) (room : List ℕ) {p n b : ℕ} → Ok (Default n b) ≡ held d → p ≡ cond (sound_dump d) (pointer d).address 0
+    → {r : Result ℕ Refusal} {u : List ℕ} → let w = table_text p b 0 (default_table n boot) in
     (r ≡ offered w n boot room) × (u ≡ offer_left w n boot room) → (r ≡ full_listed d boot room) × (u ≡ full_left d boot room)
 full_default d boot room {n = n} {b = b} e f q =
     let h = held_default d n b (sym e) in
@@ -124,7 +128,7 @@ module _ (d : List ℕ) (boot : ℕ) (room : List ℕ) (f : is_default d ≡ fal
   full_same = (rw (same_number, same_listing), rw (same_number, same_listing))
 
 pub full_written :
-    (d : List ℕ) (boot : ℕ) (room : List ℕ) → dump_refusal d ≡ 0 → {p b a s f : ℕ} → Pointed d p b a s f → {r : Lent} {u : List ℕ}
+    (d : List ℕ) (boot : ℕ) (room : List ℕ) → dump_refusal d ≡ 0 → {p b a s f : ℕ} → Pointed d p b a s f → {r : Result ℕ Refusal} {u : List ℕ}
     → let w = table_text p b a (part s f d) in
     (r ≡ fitted_bytes w room) × (u ≡ fit_left w room) → (r ≡ full_listed d boot room) × (u ≡ full_left d boot room)
 full_written d boot room e h q =

@@ -11,25 +11,35 @@ use borrow.Author.Tests.{ne_eqb}
 use Rattle.mps.specs.Words.{text, part, joined, among, each, any}
 use Rattle.mps.specs.Sums.{total}
 use Rattle.mps.specs.Refusals.{Rule, room_number}
-use Rattle.mps.specs.Rooms.{too_small, fitted, fitted_bytes, fit_left}
+use Rattle.mps.specs.Rooms.{too_small, room_rules, lent_refusal, fitted, fitted_bytes, fit_left}
 use Rattle.mps.specs.Layout.{base_length, extended_length, entry_count, base_entries, extended_entries}
 use Rattle.mps.specs.Layout.{feature1}
 use Rattle.mps.specs.Pointer.{pointer_bytes, is_default, imcr_of}
-use Rattle.mps.specs.Judge.{pointer_rules, table_rules, dump_rules, dump_refusal}
+use Rattle.mps.specs.Judge.{pointer_rules, table_rules, dump_rules, dump_refusal, held}
 use Rattle.mps.specs.Listing.{decimal, decimal_width, hex}
 use Rattle.mps.specs.Listing.{base_line, extended_line, pointer_line, table_line, end_line, default_line, refused_line, table_lines, listing}
 use Rattle.mps.specs.Listing.{list_refusal, listed, list_left, program_output, printed, print_left}
-use Rattle.mps.specs.declared.Lent.{Lent}
-use Rattle.mps.specs.declared.Lent.TheVariants.{Count, Refused}
+use Rattle.std.specs.Prelude.{Result, Ok, Err}
+use Rattle.mps.specs.Reasons.{number_of_refusal, refusal_numbered}
+use Rattle.mps.specs.declared.Held.{Held}
+use Rattle.mps.specs.declared.refusals.Refusal.{Refusal}
+use Rattle.mps.specs.declared.refusals.Refusal.TheVariants.{RoomTooSmall}
+use Rattle.laws.proofs.Answers.{answered_err, given_ok, given_err, Known, known_rows, number_numbered}
 use Rattle.laws.proofs.Tests.{whether}
 use Rattle.laws.proofs.Refusals.{number, refusal_none, refusal_below}
-use Rattle.laws.proofs.Lent.{lent_early, lent_none, lent_19, lent_before, left_kept, lent_refused, count_given, refused_given, fit_put, fit_short, fit_late}
+use Rattle.laws.proofs.Lent.{lent_early, lent_none, lent_19, lent_before, left_kept, fit_put, fit_short, fit_late}
 use Rattle.dump.proofs.Laws.{Pointed}
 use Rattle.laws.proofs.Stores.{sets_past}
 use Rattle.text.proofs.Laws.{length_decimal, length_hex, length_line}
 use Rattle.lines.specs.Wrote.{Wrote}
 use Rattle.lines.proofs.Laws.{then}
 use Rattle.listing.specs.Texts.{table_text, frame_length, entries_text}
+
+-- ---- What was read
+
+-- What is matched is what the reader answered.
+pub told : (d : List ℕ) {x : Result Held Refusal} {h k : Held} → x ≡ held d → x ≡ Ok h → h ≡ k → held d ≡ Ok k
+told d e i q = sym e ∙ i ∙ ap Ok q
 
 -- ---- A room and an answer
 
@@ -39,10 +49,10 @@ nothing v w e = e ∙ sets_past [] 0 w (omega arith)
 
 -- Whether it fits is learnt by making the answer in no room.
 module _ (w room v : List ℕ) {n : ℕ} (m : v ≡ sets [] 0 w) (e : n ≡ length w) where
-  pub too_long : length (v ++ room) < n → (Refused 19 ≡ fitted_bytes w room) × (v ++ room ≡ fit_left w room)
+  pub too_long : length (v ++ room) < n → (Err RoomTooSmall ≡ fitted_bytes w room) × (v ++ room ≡ fit_left w room)
   too_long h = let z = rw (nothing v w m) at h in rw (nothing v w m) (fit_short w (length w) room (omega arith))
 
-  pub it_fits : (u : List ℕ) → n ≤ length (v ++ room) → u ≡ sets (v ++ room) 0 w → (Count n ≡ fitted_bytes w room) × (u ≡ fit_left w room)
+  pub it_fits : (u : List ℕ) → n ≤ length (v ++ room) → u ≡ sets (v ++ room) 0 w → (Ok n ≡ fitted_bytes w room) × (u ≡ fit_left w room)
   it_fits u h k =
       let z = rw (nothing v w m) at h in
       fit_put w (length w) room e (omega arith) (rw (nothing v w m) at k)
@@ -132,12 +142,26 @@ module _ (d room : List ℕ) where
   unfolding list_refusal dump_refusal
   early e p = lent_early (dump_rules d) (dump_given d).0 _ e (λ z. omega arith)
 
-  pub list_refused : (n : ℕ) → dump_refusal d ≡ n → 0 < n → (Refused n ≡ listed d room) × (room ≡ list_left d room)
+  pub list_refused :
+      {r : Refusal} → (dump_refusal d ≡ 0 → ⊥) → r ≡ refusal_numbered (dump_refusal d) → (Err r ≡ listed d room) × (room ≡ list_left d room)
   unfolding listed list_left
-  list_refused n e p =
-      let k = early e p in
-      let z : n ≡ 0 → ⊥ = λ z. omega arith in
-      (rw k (lent_refused n _ z), rw k (sym (left_kept n _ room z)))
+  list_refused z q =
+      let n = dump_refusal d in
+      let k = early refl (omega (arith, z)) in
+      (rw k (answered_err n _ z q), rw k (sym (left_kept n _ room z)))
+
+  -- The number is one that a refusal has.
+  list_known : Known (list_refusal d room)
+  unfolding list_refusal lent_refusal room_rules dump_rules pointer_rules table_rules any among each
+  list_known =
+      known_rows (room_rules (dump_rules d) (too_small (length (listing d)) room))
+      (whether (is_default d) (λ t. rw t refl) (λ f. rw f refl))
+
+  list_number : {r : Refusal} → Err r ≡ listed d room → (list_refusal d room ≡ 0 → ⊥) × (number_of_refusal r ≡ list_refusal d room)
+  unfolding listed
+  list_number e =
+      let g = given_err (list_refusal d room) _ e in
+      (g.0, rw g.1 (number_numbered (list_refusal d room) g.0 list_known))
 
 -- An accepted dump's listing goes into the room as any answer does.
 module _ (d room : List ℕ) (e : dump_refusal d ≡ 0) where
@@ -146,7 +170,7 @@ module _ (d room : List ℕ) (e : dump_refusal d ≡ 0) where
   list_fits = let k = fit_late (dump_rules d) (dump_given d).0 (listing d) room e in (rw k, rw k)
 
   pub list_written :
-      {r : Lent} {u w : List ℕ} → w ≡ listing d → (r ≡ fitted_bytes w room) × (u ≡ fit_left w room)
+      {r : Result ℕ Refusal} {u w : List ℕ} → w ≡ listing d → (r ≡ fitted_bytes w room) × (u ≡ fit_left w room)
       → (r ≡ listed d room) × (u ≡ list_left d room)
   list_written {r} {u} {w} q h = (rw q at h.0 ∙ list_fits.0, rw q at h.1 ∙ list_fits.1)
 
@@ -174,27 +198,32 @@ module _ (d room : List ℕ) where
   unfolding program_output
   print_line n e p = rw (e, ne_eqb n 0 (λ q. omega arith))
 
-  pub print_count : {u : List ℕ} {n : ℕ} → Count n ≡ listed d room → u ≡ list_left d room → (Count n ≡ printed d room) × (u ≡ print_left d room)
+  pub print_count : {u : List ℕ} {n : ℕ} → Ok n ≡ listed d room → u ≡ list_left d room → (Ok n ≡ printed d room) × (u ≡ print_left d room)
   unfolding listed
   print_count e w =
-      let h = print_accepted (list_none d room (count_given _ _ e).0) in
+      let h = print_accepted (list_none d room (given_ok _ _ e).0) in
       (e ∙ h.0, w ∙ h.1)
 
   -- 19 is the room's, so that the dump is accepted; any other number is the dump's.
-  pub print_room : {u : List ℕ} → Refused 19 ≡ listed d room → u ≡ list_left d room → (Refused 19 ≡ printed d room) × (u ≡ print_left d room)
-  unfolding listed list_refusal dump_refusal
+  pub print_room :
+      {u : List ℕ} → Err RoomTooSmall ≡ listed d room → u ≡ list_left d room → (Err RoomTooSmall ≡ printed d room) × (u ≡ print_left d room)
+  unfolding list_refusal dump_refusal
   print_room e w =
-      let k = (lent_19 (dump_rules d) (too_small (length (listing d)) room) (never_19 d)).0 (refused_given _ _ e).1 in
+      let k = (lent_19 (dump_rules d) (too_small (length (listing d)) room) (never_19 d)).0 (sym (list_number d room e).1) in
       let h = print_accepted ((refusal_none (dump_rules d) (dump_given d).0).1 k.0) in
       (e ∙ h.0, w ∙ h.1)
 
   pub print_refusal :
-      {r : Lent} {u v : List ℕ} (n : ℕ) → Refused n ≡ listed d room → (n ≡ 19 → ⊥) → v ≡ list_left d room
-      → (r ≡ fitted_bytes (refused_line n) v) × (u ≡ fit_left (refused_line n) v) → (r ≡ printed d room) × (u ≡ print_left d room)
-  unfolding listed list_refusal dump_refusal printed print_left
-  print_refusal n e f w h =
-      let g = refused_given _ _ e in
-      let q = (lent_before (dump_rules d) _ (dump_given d).0 n g.0 (ne_eqb n 19 f)).0 g.1 in
-      let same = w ∙ sym (list_refused d room n q g.0).1 in
-      let o = print_line n q g.0 in
+      {a : Result ℕ Refusal} {r : Refusal} {u v : List ℕ} → Err r ≡ listed d room → (r ≡ RoomTooSmall → ⊥) → v ≡ list_left d room
+      → let w = refused_line (number_of_refusal r) in
+      (a ≡ fitted_bytes w v) × (u ≡ fit_left w v) → (a ≡ printed d room) × (u ≡ print_left d room)
+  unfolding listed list_refusal dump_refusal printed print_left refusal_numbered
+  print_refusal {r = r} e f w h =
+      let g = list_number d room e in
+      let n = number_of_refusal r in
+      let some : 0 < n = omega (arith, g) in
+      let other : n ≡ 19 → ⊥ = λ q. f ((given_err (list_refusal d room) _ e).1 ∙ ap refusal_numbered (sym g.1 ∙ q)) in
+      let q = (lent_before (dump_rules d) _ (dump_given d).0 n some (ne_eqb n 19 other)).0 (sym g.1) in
+      let same = w ∙ sym (list_refused d room (λ z. omega (arith, q, z, some)) refl).1 in
+      let o = print_line n q some in
       (rw (same, ← o) at h.0, rw (same, ← o) at h.1)

@@ -19,8 +19,8 @@ use Rattle.mps.specs.Judge.{pointer_rules, table_rules, dump_rules, dump_refusal
 use Rattle.mps.specs.Listing.{base_line, map_line, tree_line, mod_line, skip_line, extended_line, pointer_line, table_line, end_line, listing}
 use Rattle.mps.specs.Listing.{list_refusal, program_output, printed, print_left}
 use Rattle.mps.specs.Rooms.{room_refusal, fitted, fit_left}
-use Rattle.mps.specs.declared.Lent.{Lent}
-use Rattle.mps.specs.declared.Lent.TheVariants.{Count}
+use Rattle.std.specs.Prelude.{Result, Ok}
+use Rattle.mps.specs.declared.refusals.Refusal.{Refusal}
 use Rattle.laws.proofs.Tests.{whether, or_parts}
 use Rattle.laws.proofs.Refusals.{first_none, refusal_append}
 use Rattle.laws.proofs.Lent.{left_put, fits}
@@ -170,7 +170,7 @@ module _ (d room : List ℕ) where
   roomy : 65536 ≤ length room → room_refusal (program_output d) room ≡ 0
   roomy h = fits (program_output d) room (omega (arith, output_most d))
 
-  pub print_fits_always : {r : Lent} → 65536 ≤ length room → r ≡ printed d room → r ≡ Count (length (program_output d))
+  pub print_fits_always : {r : Result ℕ Refusal} → 65536 ≤ length room → r ≡ printed d room → r ≡ Ok (length (program_output d))
   unfolding printed fitted
   print_fits_always h e = e ∙ rw (roomy h)
 

@@ -22,10 +22,7 @@ ghost use Rattle.lines.specs.Entry.{entry_line};
 ghost use Rattle.mps.specs.Rooms.{fitted_bytes, fit_left};
 ghost use Rattle.listing.specs.Texts.{table_text, frame_length, entries_text};
 
-use mps::{Held, Lent, layout};
-
-// "answer longer than the lent room"
-const TOO_LONG: u8 = 19;
+use mps::{Held, Refusal, layout};
 
 // The place behind an entry that stands at a place of an accepted table: what the reader would answer there. The base's end is
 // handed in, since the header would be read anew behind every store into the room.
@@ -137,76 +134,83 @@ fn bound(t: &[u8]) -> usize
 }
 
 // A room that holds the longest is enough without measuring.
-fn list_table(t: &[u8], pointer: u32, imcr: u8, address: u32, out: &mut [u8]) -> Lent
+fn list_table(
+    t: &[u8],
+    pointer: u32,
+    imcr: u8,
+    address: u32,
+    out: &mut [u8],
+) -> Result<usize, Refusal>
     requires { table_refusal t.now ≡ 0 }
     ensures value { result ≡ fitted_bytes (table_text pointer imcr address t.now) out.old }
     ensures out_after { out.new ≡ fit_left (table_text pointer imcr address t.now) out.old }
 {
     if bound(t) <= out.len() {
-        return Lent::Count(put_table(out, t, pointer, imcr, address));
+        return Ok(put_table(out, t, pointer, imcr, address));
     }
     list_measured(t, pointer, imcr, address, out)
 }
 
 // Elsewhere it is measured.
-fn list_measured(t: &[u8], pointer: u32, imcr: u8, address: u32, out: &mut [u8]) -> Lent
+fn list_measured(
+    t: &[u8],
+    pointer: u32,
+    imcr: u8,
+    address: u32,
+    out: &mut [u8],
+) -> Result<usize, Refusal>
     requires { table_refusal t.now ≡ 0 }
     ensures value { result ≡ fitted_bytes (table_text pointer imcr address t.now) out.old }
     ensures out_after { out.new ≡ fit_left (table_text pointer imcr address t.now) out.old }
 {
     let size = table_width(t, imcr);
     if out.len() < size {
-        return Lent::Refused(TOO_LONG);
+        return Err(Refusal::RoomTooSmall);
     }
     put_table(out, t, pointer, imcr, address);
-    Lent::Count(size)
+    Ok(size)
 }
 
-fn list_default(number: u8, imcr: u8, out: &mut [u8]) -> Lent
+fn list_default(number: u8, imcr: u8, out: &mut [u8]) -> Result<usize, Refusal>
     ensures value { result ≡ fitted_bytes (default_line number imcr) out.old }
     ensures out_after { out.new ≡ fit_left (default_line number imcr) out.old }
 {
     let size = lines::frame::default(&mut out[..0], 0, number, imcr);
     if out.len() < size {
-        return Lent::Refused(TOO_LONG);
+        return Err(Refusal::RoomTooSmall);
     }
     lines::frame::default(out, 0, number, imcr);
-    Lent::Count(size)
+    Ok(size)
 }
 
 // A default's table stands nowhere: it is made here, and its address is 0.
-fn list_made(number: u8, boot: u8, pointer: u32, imcr: u8, out: &mut [u8]) -> Lent
+fn list_made(number: u8, boot: u8, pointer: u32, imcr: u8, out: &mut [u8]) -> Result<usize, Refusal>
     ensures value { result ≡ offered (table_text pointer imcr 0 (default_table number boot)) number boot out.old }
     ensures out_after { out.new ≡ offer_left (table_text pointer imcr 0 (default_table number boot)) number boot out.old }
 {
     let mut made = [0; layout::DEFAULT_TABLE_MOST];
-    let answer = defaults::make(number, boot, &mut made);
-    match answer {
-        Lent::Refused(n) => Lent::Refused(n),
-        Lent::Count(size) => list_table(&made[..size], pointer, imcr, 0, out),
-    }
+    let size = defaults::make(number, boot, &mut made)?;
+    list_table(&made[..size], pointer, imcr, 0, out)
 }
 
-fn print_refused(number: u8, out: &mut [u8]) -> Lent
+fn print_refused(number: u8, out: &mut [u8]) -> Result<usize, Refusal>
     ensures value { result ≡ fitted_bytes (refused_line number) out.old }
     ensures out_after { out.new ≡ fit_left (refused_line number) out.old }
 {
     let width = lines::frame::refused(&mut out[..0], 0, number);
     if out.len() < width {
-        return Lent::Refused(TOO_LONG);
+        return Err(Refusal::RoomTooSmall);
     }
     lines::frame::refused(out, 0, number);
-    Lent::Count(width)
+    Ok(width)
 }
 
-// How many bytes of the listing stand in the room, or the number of the refusal, 1 to 19.
-pub fn list(d: &[u8], out: &mut [u8]) -> Lent
+// How many bytes of the listing stand in the room, or why it is refused.
+pub fn list(d: &[u8], out: &mut [u8]) -> Result<usize, Refusal>
     ensures value { result ≡ listed d.now out.old }
     ensures out_after { out.new ≡ list_left d.now out.old }
 {
-    let found = dump::read(d);
-    match found {
-        Held::Refused(n) => Lent::Refused(n),
+    match dump::read(d)? {
         Held::Default { number, imcr } => list_default(number, imcr, out),
         Held::Table {
             pointer,
@@ -219,13 +223,12 @@ pub fn list(d: &[u8], out: &mut [u8]) -> Lent
 }
 
 // The same, but of a default configuration the table that it stands for is listed, as it is when `boot` booted: 30 too.
-pub fn full(d: &[u8], boot: u8, out: &mut [u8]) -> Lent
+pub fn full(d: &[u8], boot: u8, out: &mut [u8]) -> Result<usize, Refusal>
     ensures value { result ≡ full_listed d.now boot out.old }
     ensures out_after { out.new ≡ full_left d.now boot out.old }
 {
-    let found = dump::read(d);
-    match found {
-        Held::Refused(number) => Lent::Refused(number),
+    let held = dump::read(d)?;
+    match held {
         Held::Default { number, imcr } => list_made(number, boot, finding::pointer(d), imcr, out),
         Held::Table {
             pointer,
@@ -238,18 +241,13 @@ pub fn full(d: &[u8], boot: u8, out: &mut [u8]) -> Lent
 }
 
 // All that the listing program writes: the listing, or the line of the refusal.
-pub fn print(d: &[u8], out: &mut [u8]) -> Lent
+pub fn print(d: &[u8], out: &mut [u8]) -> Result<usize, Refusal>
     ensures value { result ≡ printed d.now out.old }
     ensures out_after { out.new ≡ print_left d.now out.old }
 {
-    let answer = list(d, out);
-    match answer {
-        Lent::Count(n) => Lent::Count(n),
-        Lent::Refused(n) => {
-            if n == TOO_LONG {
-                return Lent::Refused(TOO_LONG);
-            }
-            print_refused(n, out)
-        }
+    match list(d, out) {
+        Ok(size) => Ok(size),
+        Err(Refusal::RoomTooSmall) => Err(Refusal::RoomTooSmall),
+        Err(refusal) => print_refused(refusal.number(), out),
     }
 }

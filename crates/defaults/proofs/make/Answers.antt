@@ -1,25 +1,22 @@
 -- 30 by each test; else what the writer makes of what is laid.
 use mathlib.Core.Path.{refl, sym}
+use mathlib.Core.Logic.{⊎_elim}
 use mathlib.Core.List.{[]}
 use native.Mathlib.Omega.{arith}
 use lib.Seq.{length-take-le}
 use Rattle.mps.specs.Defaults.{default_fields}
 use Rattle.defaults.proofs.Laws.{There}
-use Rattle.defaults.proofs.Calls.{make_zero, make_more, make_boot, laid_inside, make_written}
+use Rattle.defaults.proofs.Calls.{no_zero, no_more, no_boot, none_made, laid_inside, make_written}
 use Rattle.defaults.proofs.make.Goals as goal
 use Rattle.defaults.proofs.make.Goals.{After-base-2-1}
 
 pub returns-then-number-eq0 : goal.returns-then-number-eq0
 returns-then-number-eq0 c =
-    let both = make_zero _ _ _ c.if-number-eq0.true in record { value = both.0; room_after = both.1 }
-
-pub returns-then-number-gt-DEFAULT_MOST : goal.returns-then-number-gt-DEFAULT_MOST
-returns-then-number-gt-DEFAULT_MOST c =
-    let both = make_more _ _ _ c.if-number-gt-DEFAULT_MOST.true in record { value = both.0; room_after = both.1 }
-
-pub returns-then-boot-gt-BOOT_MOST : goal.returns-then-boot-gt-BOOT_MOST
-returns-then-boot-gt-BOOT_MOST c =
-    let both = make_boot _ _ _ c.if-boot-gt-BOOT_MOST.true in record { value = both.0; room_after = both.1 }
+    let a = c.args in
+    let none =
+    ⊎_elim (no_zero a.number a.boot) (⊎_elim (λ h. no_more a.number a.boot h.1) (λ h. no_boot a.number a.boot h.2)) c.then-number-eq0.either in
+    let both = none_made a.number a.boot a.room.now none in
+    record { value = both.0; room_after = both.1 }
 
 -- A configuration and a boot processor that there are.
 there : (c : After-base-2-1) → There c.args.number c.args.boot

@@ -8,4 +8,4 @@ overflow_add-result c = omega (arith, c.put_buses-end.ensures.value, buses_bound
 
 pub returns : goal.returns
 returns c =
-    let both = front_laid_lem _ _ _ c.version-apic.ensures c.put_processors.ensures (c.put_buses-end.ensures.value, c.put_buses-end.ensures.out_after) c.io_apic-chip.ensures c.copy.ensures in record { value = both.0; out_after = both.1 }
+    let both = front_laid_lem _ _ _ c.version-apic.ensures c.put_processors.ensures (c.put_buses-end.ensures.value, c.put_buses-end.ensures.out_after) c.io_apic.ensures c.copy.ensures in record { value = both.0; out_after = both.1 }
