@@ -24,5 +24,3 @@ module _ (d room : List ℕ) (h : 65536 ≤ length room) {r : Result ℕ Refusal
       let m : n ≡ length w = cc in
       let v : u ≡ w ++ rest = k ∙ print_leaves_always d room h in
       (m, rw v (omega (arith, m, length-append w rest)), rw v (take_at w rest n (sym m)))
-
-pub ruleset written = (never_refused, all_written)

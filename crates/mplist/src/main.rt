@@ -56,7 +56,6 @@ fn say<W: Write>(to: &mut W, line: &[u8]) {
 
 // All that is to be written for the bytes of d, at the start of the room; answers how many bytes that is. The room is
 // long enough for every listing.
-#[tactic(auto, using(crate::proofs::Laws::written))]
 fn answer(d: &[u8], room: &mut [u8]) -> usize
     requires { 65536 ≤ length room.old }
     ensures { (result ≡ length (program_output d.now)) × (result ≤ length room.new) × (take result room.new ≡ program_output d.now) }
