@@ -1,107 +1,95 @@
 // An answer as it is written.
 ghost use Rattle.std.specs.Prelude.{◌≡◌, [], ◌∷◌, ◌≤◌, length};
-ghost use Rattle.answers.specs.Wire.{answer_of, fields_numbers, head_size};
+ghost use Rattle.answers.specs.Wire.{values_of, fields_numbers};
 
 use crate::request;
+use crate::request::Head;
 use mps::Fields;
+use std::io;
 use std::io::Write;
 
-// How many values there are, and the values; 0 behind the last.
+// The values of an answer: what one call gives, what two give, or the parts of a table with its header fields.
 #[derive(Clone, Copy)]
-pub struct Answer {
-    pub count: u8,
-    pub values: [u64; 12],
+pub enum Answer {
+    One([u64; 1]),
+    Two([u64; 2]),
+    Fields([u64; 8]),
 }
 
 // The values stand behind their count.
 const VALUES: usize = 1;
 
-const HEAD_MOST: usize = 117;
+const HEAD_MOST: usize = 85;
 
-#[tactic(auto, unfolding(crate::specs::Wire::answer_of, mps::specs::Words::exactly))]
-pub fn one(value: u64) -> Answer
-    ensures value { result ≡ answer_of (value ∷ []) }
-    ensures count_bound { result.count ≤ 12 }
-{
-    Answer {
-        count: 1,
-        values: [value, 0, 0, 0, 0, 0, 0, 0, 0, 0, 0, 0],
+impl Answer {
+    fn values(&self) -> &[u64]
+        ensures value { result.now ≡ values_of self.now }
+        ensures most { length result.now ≤ 8 }
+    {
+        match self {
+            Answer::One(values) => values,
+            Answer::Two(values) => values,
+            Answer::Fields(values) => values,
+        }
     }
 }
 
-#[tactic(auto, unfolding(crate::specs::Wire::answer_of, mps::specs::Words::exactly))]
-pub fn two(first: u64, second: u64) -> Answer
-    ensures value { result ≡ answer_of (first ∷ second ∷ []) }
-    ensures count_bound { result.count ≤ 12 }
+pub fn one(value: u64) -> Answer
+    ensures { values_of result ≡ value ∷ [] }
 {
-    Answer {
-        count: 2,
-        values: [first, second, 0, 0, 0, 0, 0, 0, 0, 0, 0, 0],
-    }
+    Answer::One([value])
+}
+
+pub fn two(first: u64, second: u64) -> Answer
+    ensures { values_of result ≡ first ∷ second ∷ [] }
+{
+    Answer::Two([first, second])
 }
 
 // A value and the header fields. The OEM ID and the product are texts, given as numbers.
-#[tactic(auto, unfolding(crate::specs::Wire::answer_of, mps::specs::Words::exactly))]
 pub fn with_fields(value: u64, fields: Fields) -> Answer
-    ensures value { result ≡ answer_of (value ∷ fields_numbers fields) }
-    ensures count_bound { result.count ≤ 12 }
+    ensures { values_of result ≡ value ∷ fields_numbers fields }
 {
-    let oem = fields.oem;
-    let product = fields.product;
-    Answer {
-        count: 8,
-        values: [
-            value,
-            numbers::le64(&oem, 0),
-            numbers::le64(&product, 0),
-            numbers::le32(&product, 8) as u64,
-            fields.pointer as u64,
-            fields.size as u64,
-            fields.apic as u64,
-            fields.reserved as u64,
-            0,
-            0,
-            0,
-            0,
-        ],
-    }
-}
-
-fn put_values(out: &mut [u8], values: &[u64]) {
-    let mut i = 0;
-    while i < values.len() {
-        numbers::put64(out, VALUES + 8 * i, values[i]);
-        i += 1;
-    }
+    Answer::Fields([
+        value,
+        numbers::le64(&fields.oem, 0),
+        numbers::le64(&fields.product, 0),
+        u64::from(numbers::le32(&fields.product, 8)),
+        u64::from(fields.pointer),
+        u64::from(fields.size),
+        u64::from(fields.apic),
+        u64::from(fields.reserved),
+    ])
 }
 
 // All before the slices' bytes, in one write. The lengths are the request's.
-fn head<W: Write>(output: &mut W, r: Answer, q: &[u8]) -> bool
-    requires { (r.count ≤ 12) × (head_size ≡ length q.now) }
+fn head<W: Write>(output: &mut W, values: &[u64], q: &Head) -> io::Result<()>
+    requires { length values.now ≤ 8 }
 {
     let mut out = [0; HEAD_MOST];
-    out[0] = r.count;
-    let values = r.values;
-    put_values(&mut out, &values);
-    let end = VALUES + 8 * numbers::wide(r.count) as usize;
-    let lengths = &q[request::LENGTHS..];
-    slices::copy(&mut out, end, lengths);
+    out[0] = values.len() as u8;
+    for (i, value) in values.iter().enumerate() {
+        numbers::put64(&mut out, VALUES + 8 * i, *value);
+    }
+    let end = VALUES + 8 * values.len();
+    let lengths = &q.bytes[request::LENGTHS..];
     let whole = end + lengths.len();
-    output.write_all(&out[0..whole]).is_ok()
+    out[end..whole].copy_from_slice(lengths);
+    output.write_all(&out[..whole])
 }
 
-// Whether all of it was written: the head, and the slices as the call left them. No byte of it waits for the next answer.
-pub fn written<W: Write>(output: &mut W, r: Answer, q: &[u8], a: &[u8], m: &[u8], e: &[u8]) -> bool
-    requires { (r.count ≤ 12) × (head_size ≡ length q.now) }
-{
-    if head(output, r, q) {
-        if output.write_all(a).is_ok() {
-            if output.write_all(m).is_ok() {
-                if output.write_all(e).is_ok() {
-                    return output.flush().is_ok();
-                }
-            }
-        }
-    }
-    false
+// The head, and the slices as the call left them. No byte of it waits for the next answer.
+pub fn write<W: Write>(
+    output: &mut W,
+    r: Answer,
+    q: &Head,
+    a: &[u8],
+    m: &[u8],
+    e: &[u8],
+) -> io::Result<()> {
+    head(output, r.values(), q)?;
+    output.write_all(a)?;
+    output.write_all(m)?;
+    output.write_all(e)?;
+    output.flush()
 }

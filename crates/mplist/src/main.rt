@@ -13,17 +13,10 @@
 
 ghost use Rattle.std.specs.Prelude.{◌≡◌, ◌≤◌, length, take};
 ghost use Rattle.mps.specs.Listing.{program_output};
-ghost use Rattle.mplist.specs.Input.{Within};
+ghost use Rattle.std.specs.Result.{IfOk};
 
-use mps::Lent;
+use std::io;
 use std::io::{Read, Write};
-
-// How many bytes came before the input ended or the buffer was full.
-#[derive(Drop)]
-enum Input {
-    Failed,
-    Bytes(usize),
-}
 
 // 65,537 zeros: one byte more than a dump may have, so that a longer input is seen; it is refused whatever follows. The
 // `ensures` gives only the length, so that no proof above meets the cells.
@@ -40,21 +33,20 @@ fn listing_room() -> [u8; 65536]
     [0; 65536]
 }
 
-// Reads until the input ends or buf is full. A pipe may give its bytes in pieces of any size.
-fn read_all<R: Read>(input: &mut R, buf: &mut [u8]) -> Input
-    ensures { Within buf.new result }
+// Reads until the input ends or buf is full, and answers how many bytes came. A pipe may give its bytes in pieces of any
+// size.
+fn read_all<R: Read>(input: &mut R, buf: &mut [u8]) -> io::Result<usize>
+    ensures { IfOk result (λ n. n ≤ length buf.new) }
 {
     let mut n = 0;
     while n < buf.len() {
-        let Ok(more) = input.read(&mut buf[n..]) else {
-            return Input::Failed;
-        };
+        let more = input.read(&mut buf[n..])?;
         if more == 0 {
-            return Input::Bytes(n);
+            return Ok(n);
         }
         n += more;
     }
-    Input::Bytes(n)
+    Ok(n)
 }
 
 // Where standard error fails too, there is no place to say it.
@@ -63,16 +55,12 @@ fn say<W: Write>(to: &mut W, line: &[u8]) {
 }
 
 // All that is to be written for the bytes of d, at the start of the room; answers how many bytes that is. The room is
-// long enough for every listing, so the refusal is never met.
+// long enough for every listing.
 fn answer(d: &[u8], room: &mut [u8]) -> usize
     requires { 65536 ≤ length room.old }
     ensures { (result ≡ length (program_output d.now)) × (result ≤ length room.new) × (take result room.new ≡ program_output d.now) }
 {
-    let printed = listing::print(d, room);
-    match printed {
-        Lent::Count(n) => n,
-        Lent::Refused(_) => 0,
-    }
+    listing::print(d, room).unwrap()
 }
 
 fn write_listing(rt: HostRuntime, d: &[u8]) {
@@ -85,12 +73,11 @@ fn write_listing(rt: HostRuntime, d: &[u8]) {
 
 fn main(rt: HostRuntime) {
     let mut buffer = dump_buffer();
-    let input = read_all(&mut rt.stdin(), &mut buffer);
-    match input {
-        Input::Bytes(n) => {
+    match read_all(&mut rt.stdin(), &mut buffer) {
+        Ok(n) => {
             write_listing(rt, &buffer[..n]);
         }
-        Input::Failed => {
+        Err(_) => {
             say(&mut rt.stderr(), b"mplist: cannot read the dump\n");
         }
     }

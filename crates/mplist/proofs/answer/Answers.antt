@@ -1,15 +1,14 @@
--- The room is long enough, so the answer is a count, and the refusal is not met.
+-- The room is long enough, so that nothing is refused.
 use native.Mathlib.Omega.{arith}
-use Rattle.mplist.proofs.Laws.{all_written, never_refused}
+use Rattle.mplist.proofs.Laws.{never_refused, all_written}
 use Rattle.mplist.proofs.answer.Goals as goal
 
-pub returns-in-Count : goal.returns-in-Count
-returns-in-Count c =
+pub unwrap-requires : goal.unwrap-requires
+unwrap-requires c =
     let a = c.args in
-    let p = c.print-printed in
-    all_written a.d.now a.room.now (omega arith) p.ensures.value p.new.out p.ensures.out_after c.in-Count.is
+    rw (never_refused a.d.now a.room.now (omega arith) c.print.ensures.value)
 
-pub returns-in-Refused : goal.returns-in-Refused
-returns-in-Refused c =
+pub returns : goal.returns
+returns c =
     let a = c.args in
-    absurd (never_refused a.d.now a.room.now (omega arith) c.print-printed.ensures.value c.in-Refused.is)
+    all_written a.d.now a.room.now (omega arith) c.print.ensures.value c.print.new.out c.print.ensures.out_after c.unwrap.ensures

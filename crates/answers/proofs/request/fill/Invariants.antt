@@ -1,9 +1,0 @@
--- The count never passes the end, and each turn adds at least one byte.
-use Rattle.std.specs.Prelude.{◌≡◌, ◌≤◌, ◌-◌, length}
-use Rattle.answers.proofs.request.fill.Given as goal
-
-abbrev pub invariant-loop-n : goal.invariant-loop-n
-invariant-loop-n g l = (l.n ≤ length l.buf) × (length l.buf ≡ length l.initial.buf)
-
-abbrev pub decreases-loop-n : goal.decreases-loop-n
-decreases-loop-n g l = length l.buf - l.n
