@@ -59,7 +59,6 @@ next {t} {u} {x} {n} {at} {r} {q} {ws} w a b = record { wrote = rw (← joint w 
 pub has_fits : {r : Bool} (n : ℕ) (t : List ℕ) (at : ℕ) → r ≡ leb (at + n) (length t) → r ≡ true → at + n ≤ length t
 has_fits n t at e h = leb-true (at + n) (length t) (sym e ∙ h)
 
-
 -- A line that was made in a buffer.
 buffer_holds : (z w : List ℕ) → length w ≤ length z → take (length w) (sets z 0 w) ≡ w
 buffer_holds z w h = rw (sets_at_start z w h) (take-append_seam w (drop (length w) z))
