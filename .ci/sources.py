@@ -87,11 +87,34 @@ def function_at(text, match, crate, modules, file):
     return Function(crate, modules, match[1], file, parameters, result, **clauses)
 
 
+def methods(text):
+    """Where the methods of each type stand: from, to, the type; none where the block is of a type of any kind, or of a trait, whose
+    functions are public only by what they are named with."""
+    blocks = []
+    for block in re.finditer(r"\bimpl\b([^{]*)\{", text):
+        of = re.fullmatch(r"\s*(?:<\s*'[^>]*>)?\s*(\w+)\s*(?:<\s*'[^>]*>)?\s*", block[1])
+        blocks.append((block.start(), closing(text, block.end() - 1), block[0], of and of[1]))
+    return blocks
+
+
 def functions_of(text, crate, modules, file):
     text = without_comments(text)
-    for wrong in re.findall(r"\b(?:impl\b[^{]*|mod\s+\w+\s*)\{", text):
+    for wrong in re.findall(r"\bmod\s+\w+\s*\{", text):
         raise Unreadable(f"{file}: `{wrong}`: no path is known here for a function inside it")
-    return [function_at(text, m, crate, modules, file) for m in PUBLIC.finditer(text)]
+    blocks = methods(text)
+    found = []
+    for m in PUBLIC.finditer(text):
+        around = [(block, of) for start, end, block, of in blocks if start < m.start() < end]
+        for block, of in around:
+            if not of:
+                raise Unreadable(f"{file}: `{block}`: no path is known here for a function inside it")
+        inside = [of for _, of in around]
+        function = function_at(text, m, crate, modules + inside, file)
+        for at, (name, kind) in enumerate(function.parameters):
+            if inside and name.lstrip("&").split()[-1] == "self" and not kind:
+                function.parameters[at] = ("self", name[:-4] + inside[0])
+        found.append(function)
+    return found
 
 
 def libraries():

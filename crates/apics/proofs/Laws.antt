@@ -1,25 +1,27 @@
--- Laws of the two calls: an entry at a place, and what they find in the words of the rules. Assumes nothing.
-use Prim.Native.Nat.{ℕ, ◌+◌, ◌-◌, ◌*◌, ◌/◌, ◌%◌, ◌≤◌, ◌<◌}
+-- Laws of the two calls: of one entry, of the pieces that a loop has left, and what they find in the words of the rules. Assumes
+-- nothing.
+use Prim.Native.Nat.{ℕ, ◌+◌, ◌*◌, ◌/◌, ◌%◌, ◌≤◌, ◌<◌}
 use mathlib.Core.Path.{◌≡◌, refl, ap, sym, ◌∙◌}
 use mathlib.Core.Bool.{Bool, true, false, not, cond, ◌||◌, ◌&&◌, or_assoc, or_comm, and-true, and-false}
-use mathlib.Core.List.{List, [], ◌∷◌}
+use mathlib.Core.List.{List, [], ◌∷◌, ◌++◌}
 use native.Mathlib.Omega.{arith}
 use native.Mathlib.Nat.{div-one, zero-add}
 use lib.Dec.{eqb}
 use lib.ListN.{length, get_or, take, drop}
 use borrow.Author.Tests.{eq-eqb, ne_eqb, eqb-true, eqb-false}
-use Rattle.mps.specs.Words.{bit, part, among, twice, any, every, keep, each}
+use Rattle.mps.specs.Words.{bit, among, twice, any, every, keep, each}
 use Rattle.mps.specs.Numbers.{le}
 use Rattle.mps.specs.Layout.{Entry, id_of, enabled, bootstrap, everyone}
 use Rattle.mps.specs.Rules.{misplaced}
 use Rattle.mps.specs.Sections.{rows}
 use Rattle.laws.proofs.Tests.{eqb_comm, whether, same_test, or_parts}
 use Rattle.laws.proofs.Lists.{keep_in, keep_out, any_keep}
-use Rattle.laws.proofs.Rows.{rows_done, rows_next, row_byte}
+use Rattle.laws.proofs.Rows.{rows_short, rows_more, row_byte}
 use Rattle.laws.proofs.Small.{Small, small_keep, below_each}
 use Rattle.roll.specs.Roll.{marked, with_marks, Shows}
 use Rattle.roll.specs.Calls.{Call, wrong_one, called}
-use Rattle.roll.proofs.Laws.{called_stop_at, called_next_at, claimed, called_wrong, called_all, called_other, any_shows}
+use Rattle.roll.proofs.Pieces.{call_next}
+use Rattle.roll.proofs.Laws.{claimed, called_wrong, called_all, called_other, any_shows}
 use Rattle.apics.specs.Apics.{processor_call, io_apic_call, wrong_processors_in}
 
 -- ---- The flags of a row are those of the slice
@@ -29,10 +31,6 @@ module _ (n : ℕ) (s : List ℕ) (at : ℕ) (f : 4 ≤ n) where
   unfolding bit
   row_enabled = rw (row_byte n s at 3 (omega arith), div-one)
 
-  row_bootstrap : bootstrap (take n (drop at s)) ≡ eqb (get_or s (at + 3) 0 / 2 % 2) 1
-  unfolding bit
-  row_bootstrap = rw (row_byte n s at 3 (omega arith))
-
 -- The marks that an entry puts: one more beside its own where it is enabled.
 marks_by : (own more f : ℕ) → own + f % 2 * more ≡ cond (eqb (f % 2) 1) (own + more) own
 marks_by own more f =
@@ -40,7 +38,7 @@ marks_by own more f =
     (λ on. let odd = eqb-true (f % 2) 1 on in rw (on, odd) (omega arith))
     (λ off. let odd = eqb-false (f % 2) 1 off in let even : f % 2 ≡ 0 = omega (arith, odd) in rw (off, even) (omega arith))
 
--- ---- A processor at a place of a slice
+-- ---- A processor
 
 -- The bootstrap bit without the enabled one.
 boots_only : (f : ℕ) → eqb (f % 4) 2 ≡ (eqb (f / 2 % 2) 1 && not (eqb (f % 2) 1))
@@ -52,15 +50,21 @@ boots_only f =
     (λ q. let e = eqb-true (f % 4) 2 q in rw (eq-eqb (f / 2 % 2) 1 (omega (arith, e))))
     (λ q. let e = eqb-true (f / 2 % 2) 1 (sym (and-true (eqb (f / 2 % 2) 1)) ∙ q) in eq-eqb (f % 4) 2 (omega (arith, e, even)))))
 
-module _ (roll s : List ℕ) (at : ℕ) where
-  pub processor_at :
-      {b : Bool} → b ≡ marked 1 roll (get_or s (at + 1) 0)
-      → (eqb (get_or s (at + 3) 0 % 4) 2 || (eqb (get_or s (at + 3) 0 % 2) 1 && b)) ≡ wrong_one processor_call roll (take 20 (drop at s))
-  unfolding wrong_one processor_call
-  processor_at {b} e =
-      let f = get_or s (at + 3) 0 in
-      rw (e, row_enabled 20 s at (omega arith), row_bootstrap 20 s at (omega arith), row_byte 20 s at 1 (omega arith), boots_only f)
-      (or_comm (eqb (f / 2 % 2) 1 && not (eqb (f % 2) 1)) (eqb (f % 2) 1 && marked 1 roll (get_or s (at + 1) 0)))
+pub processor_wrong :
+    (roll e : List ℕ) {b : Bool} → b ≡ marked 1 roll (get_or e 1 0)
+    → (eqb (get_or e 3 0 % 4) 2 || (eqb (get_or e 3 0 % 2) 1 && b)) ≡ wrong_one processor_call roll e
+unfolding wrong_one processor_call bit
+processor_wrong roll e q =
+    let f = get_or e 3 0 in
+    rw (q, div-one, boots_only f) (or_comm (eqb (f / 2 % 2) 1 && not (eqb (f % 2) 1)) (eqb (f % 2) 1 && marked 1 roll (get_or e 1 0)))
+
+pub processor_next :
+    (roll rest e left next : List ℕ) → length e ≡ 20 → rest ≡ e ++ left → wrong_one processor_call roll e ≡ false
+    → next ≡ with_marks (1 + get_or e 3 0 % 2 * 2) roll (get_or e 1 0)
+    → called processor_call roll (rows 20 rest) ≡ called processor_call next (rows 20 left)
+unfolding processor_call bit
+processor_next roll rest e left next h c w q =
+    call_next processor_call roll 20 rest e left (omega arith) h c w ∙ rw (q, marks_by 1 2 (get_or e 3 0), div-one)
 
 -- ---- An I/O APIC
 
@@ -82,71 +86,47 @@ module _ (roll e : List ℕ) where
     unfolding wrong_one io_apic_call misplaced
     io_free y q = rw (on n, ← t, y, ← q)
 
--- ---- The calls at a place of a slice: the row there is wrong, or its marks are put
+pub ruleset io_steps = (io_off, io_taken, io_free)
 
-module _ (roll s : List ℕ) (at : ℕ) (h : at ≤ length s) where
-  pub processor_next :
-      {next : List ℕ} → 20 ≤ length s - at → {b : Bool} → b ≡ wrong_one processor_call roll (take 20 (drop at s)) → b ≡ false
-      → next ≡ with_marks (1 + get_or s (at + 3) 0 % 2 * 2) roll (get_or s (at + 1) 0)
-      → called processor_call roll (rows 20 (drop at s)) ≡ called processor_call next (rows 20 (drop (at + 20) s))
-  unfolding processor_call
-  processor_next r w n e =
-      called_next_at processor_call roll 20 s at h (omega arith) r (sym w ∙ n)
-      (e ∙ rw (row_enabled 20 s at (omega arith), row_byte 20 s at 1 (omega arith), marks_by 1 2 (get_or s (at + 3) 0)))
-
-  -- The row of eight bytes as it is lent.
-  module _ (r : 8 ≤ length s - at) where
-    lent : part at (at + 8) s ≡ take 8 (drop at s)
-    lent = let width : at + 8 - at ≡ 8 = omega arith in rw width
-
-    pub io_stop :
-        {b : Bool} → b ≡ wrong_one io_apic_call roll (part at (at + 8) s) → b ≡ true
-        → called io_apic_call roll (rows 8 (drop at s)) ≡ record { wrong = true; roll = roll }
-    io_stop w y = called_stop_at io_apic_call roll 8 s at h (omega arith) r (rw lent at (sym w ∙ y))
-
-    pub io_next :
-        {next : List ℕ} {b : Bool} → b ≡ wrong_one io_apic_call roll (part at (at + 8) s) → b ≡ false
-        → next ≡ with_marks (4 + get_or (part at (at + 8) s) 3 0 % 2 * 16) roll (get_or (part at (at + 8) s) 1 0)
-        → called io_apic_call roll (rows 8 (drop at s)) ≡ called io_apic_call next (rows 8 (drop (at + 8) s))
-    unfolding io_apic_call bit
-    io_next w n e =
-        called_next_at io_apic_call roll 8 s at h (omega arith) r (rw lent at (sym w ∙ n))
-        (e ∙ rw (lent, marks_by 4 16 (get_or (take 8 (drop at s)) 3 0), div-one))
+pub io_next :
+    (roll rest e left next : List ℕ) → length e ≡ 8 → rest ≡ e ++ left → wrong_one io_apic_call roll e ≡ false
+    → next ≡ with_marks (4 + get_or e 3 0 % 2 * 16) roll (get_or e 1 0)
+    → called io_apic_call roll (rows 8 rest) ≡ called io_apic_call next (rows 8 left)
+unfolding io_apic_call bit
+io_next roll rest e left next h c w q =
+    call_next io_apic_call roll 8 rest e left (omega arith) h c w ∙ rw (q, marks_by 4 16 (get_or e 3 0), div-one)
 
 -- ---- How many bootstrap processors there are
 
--- From a place on.
-abbrev pub boots_from : List ℕ → ℕ → ℕ
-boots_from s at = length (keep bootstrap (rows 20 (drop at s)))
+abbrev pub boots_in : List Entry → ℕ
+boots_in ps = length (keep bootstrap ps)
 
-module _ (s : List ℕ) (at : ℕ) (h : at ≤ length s) where
-  pub boots_done : length s - at < 20 → boots_from s at ≡ 0
+module _ (rest : List ℕ) where
+  pub boots_end : length rest < 20 → boots_in (rows 20 rest) ≡ 0
   unfolding keep
-  boots_done f = rw (rows_done 20 s at h f)
+  boots_end f = rw (rows_short 20 rest f)
 
-  pub boots_next : 20 ≤ length s - at → {x : ℕ} → x ≡ get_or s (at + 3) 0 / 2 % 2 → x + boots_from s (at + 20) ≡ boots_from s at
-  boots_next r {x} e =
-      let f = get_or s (at + 3) 0 in
-      let row = take 20 (drop at s) in
-      let rest = rows 20 (drop (at + 20) s) in
-      whether (eqb (f / 2 % 2) 1)
-      (λ on. let one = eqb-true (f / 2 % 2) 1 on in
-      rw (rows_next 20 s at (omega arith) h r, keep_in bootstrap row rest (row_bootstrap 20 s at (omega arith) ∙ on), e, one) (omega arith))
+  pub boots_next :
+      (e left : List ℕ) → length e ≡ 20 → rest ≡ e ++ left → boots_in (rows 20 rest) ≡ get_or e 3 0 / 2 % 2 + boots_in (rows 20 left)
+  unfolding bit
+  boots_next e left h c =
+      let f = get_or e 3 0 in
+      whether (bootstrap e)
+      (λ on. let one = eqb-true (f / 2 % 2) 1 on in rw (rows_more 20 rest e left (omega arith) h c, keep_in bootstrap e (rows 20 left) on, one) (omega arith))
       (λ off. let no = eqb-false (f / 2 % 2) 1 off in let none : f / 2 % 2 ≡ 0 = omega (arith, no) in
-      rw (rows_next 20 s at (omega arith) h r, keep_out bootstrap row rest (row_bootstrap 20 s at (omega arith) ∙ off), e, none, zero-add))
+      rw (rows_more 20 rest e left (omega arith) h c, keep_out bootstrap e (rows 20 left) off, none, zero-add))
 
-module _ (roll₀ : List ℕ) (ps : List Entry) {roll : List ℕ} where
-  pub wrong_stop :
-      called processor_call roll₀ ps ≡ record { wrong = true; roll = roll }
-      → (true ≡ wrong_processors_in roll₀ ps) × (roll ≡ (called processor_call roll₀ ps).roll)
+-- What the answer is where one is wrong, and where none is.
+module _ (roll : List ℕ) (ps : List Entry) where
+  pub wrong_stop : (called processor_call roll ps).wrong ≡ true → true ≡ wrong_processors_in roll ps
   unfolding wrong_processors_in
-  wrong_stop e = (rw e, rw e)
+  wrong_stop e = rw e
 
-  pub wrong_done :
-      called processor_call roll₀ ps ≡ record { wrong = false; roll = roll } → {n : ℕ} → n ≡ length (keep bootstrap ps)
-      → (not (eqb n 1) ≡ wrong_processors_in roll₀ ps) × (roll ≡ (called processor_call roll₀ ps).roll)
+  pub wrong_done : (n : ℕ) → (called processor_call roll ps).wrong ≡ false → n ≡ boots_in ps → not (eqb n 1) ≡ wrong_processors_in roll ps
   unfolding wrong_processors_in
-  wrong_done e q = (rw (e, q), rw e)
+  wrong_done n e q = rw (e, q)
+
+pub ruleset processor_steps = (processor_next, boots_end, boots_next, wrong_stop, wrong_done)
 
 -- ---- In the words of the rules
 

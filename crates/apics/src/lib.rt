@@ -6,7 +6,7 @@
 // leaves the roll that its call leaves. The calls stand in specs/Apics.antt.
 #![tactic(auto)]
 
-ghost use Rattle.std.specs.Prelude.{◌≡◌, ◌+◌, ◌≤◌, length, take, drop};
+ghost use Rattle.std.specs.Prelude.{◌≡◌, length};
 ghost use Rattle.mps.specs.Layout.{processor_size, entry_size};
 ghost use Rattle.mps.specs.Sections.{rows};
 ghost use Rattle.roll.specs.Calls.{wrong_one, called};
@@ -15,35 +15,36 @@ ghost use Rattle.apics.specs.Apics.{processor_call, io_apic_call, wrong_processo
 use mps::layout;
 
 // A disabled bootstrap processor, or an enabled one whose ID is taken.
-fn wrong_processor(s: &[u8], at: usize, roll: &[u8; 256]) -> bool
-    requires { at + processor_size ≤ length s.now }
-    ensures { result ≡ wrong_one processor_call roll.now (take processor_size (drop at s.now)) }
+#[tactic(auto, using(crate::proofs::Laws::processor_wrong))]
+fn wrong_processor(e: &[u8], roll: &[u8; 256]) -> bool
+    requires { length e.now ≡ processor_size }
+    ensures { result ≡ wrong_one processor_call roll.now e.now }
 {
-    let flags = s[at + layout::APIC_FLAGS];
-    (flags % 4 == 2) | ((flags % 2 == 1) & roll::has(roll, s[at + layout::ENTRY_ID], roll::TAKEN))
+    let flags = e[layout::APIC_FLAGS];
+    (flags % 4 == 2) | ((flags % 2 == 1) & roll::has(roll, e[layout::ENTRY_ID], roll::TAKEN))
 }
 
 // Whether one of the processors is wrong, or not exactly one is the bootstrap processor.
+#[tactic(auto, using(roll::proofs::Pieces::call_steps, crate::proofs::Laws::processor_steps))]
 pub fn wrong_processors(roll: &mut [u8; 256], s: &[u8]) -> bool
     ensures value { result ≡ wrong_processors_in roll.old (rows processor_size s.now) }
     ensures roll_after { roll.new ≡ (called processor_call roll.old (rows processor_size s.now)).roll }
 {
-    let mut boots: u64 = 0;
-    let mut at = 0;
-    while layout::PROCESSOR_SIZE <= s.len() - at {
-        if wrong_processor(s, at, roll) {
+    let mut boots: usize = 0;
+    for e in s.chunks_exact(layout::PROCESSOR_SIZE) {
+        if wrong_processor(e, roll) {
             return true;
         }
-        let flags = s[at + layout::APIC_FLAGS];
-        boots += numbers::wide(flags / 2 % 2);
+        let flags = e[layout::APIC_FLAGS];
+        boots += usize::from(flags / 2 % 2);
         let marks = roll::PROCESSOR_MARK + flags % 2 * roll::TAKEN_MARK;
-        roll::put(roll, s[at + layout::ENTRY_ID], marks);
-        at += layout::PROCESSOR_SIZE;
+        roll::put(roll, e[layout::ENTRY_ID], marks);
     }
     boots != 1
 }
 
 // An enabled one whose ID is taken (a processor's is not, by that alone), or that stands at address 0 or at no multiple of 1,024.
+#[tactic(auto, using(crate::proofs::Laws::io_steps))]
 fn wrong_io_apic(e: &[u8], roll: &[u8; 256]) -> bool
     requires { length e.now ≡ entry_size }
     ensures { result ≡ wrong_one io_apic_call roll.now e.now }
@@ -59,19 +60,17 @@ fn wrong_io_apic(e: &[u8], roll: &[u8; 256]) -> bool
 }
 
 // Whether one of the I/O APICs is wrong.
+#[tactic(auto, using(roll::proofs::Pieces::call_steps, crate::proofs::Laws::io_next))]
 pub fn wrong_io_apics(roll: &mut [u8; 256], s: &[u8]) -> bool
     ensures value { result ≡ (called io_apic_call roll.old (rows entry_size s.now)).wrong }
     ensures roll_after { roll.new ≡ (called io_apic_call roll.old (rows entry_size s.now)).roll }
 {
-    let mut at = 0;
-    while layout::ENTRY_SIZE <= s.len() - at {
-        let e = &s[at..at + layout::ENTRY_SIZE];
+    for e in s.chunks_exact(layout::ENTRY_SIZE) {
         if wrong_io_apic(e, roll) {
             return true;
         }
         let marks = roll::IO_APIC_MARK + e[layout::APIC_FLAGS] % 2 * roll::IO_TAKEN_MARK;
         roll::put(roll, e[layout::ENTRY_ID], marks);
-        at += layout::ENTRY_SIZE;
     }
     false
 }

@@ -4,6 +4,7 @@
 use Prim.Native.Nat.{ℕ}
 use Rattle.mps.specs.Words.{text, bit, same, among, twice, keep, any, every, last, each, joined, rising, cut, exactly}
 use Rattle.mps.specs.Refusals.{refusal}
+use Rattle.mps.specs.Reasons.{refusal_numbered}
 use Rattle.mps.specs.Rooms.{too_small, room_rules, lent_refusal, lent_left, room_refusal, fitted, fit_left}
 use Rattle.mps.specs.Sums.{total, sum256, to_store}
 use Rattle.mps.specs.Numbers.{le, bytes}
@@ -36,6 +37,10 @@ of_words = 0
 of_refusals : ℕ
 unfolding refusal
 of_refusals = 0
+
+of_reasons : ℕ
+unfolding refusal_numbered
+of_reasons = 0
 
 of_rooms : ℕ
 unfolding too_small room_rules lent_refusal lent_left room_refusal fitted fit_left
@@ -134,5 +139,5 @@ unfolding new_row grown_book not_latest book_full addition_rules grown addition 
 of_saving = 0
 
 unfoldable pub computed : ℕ
-unfolding of_words of_refusals of_rooms of_sums of_numbers of_layout of_buses of_ranges of_dump of_pointer of_table of_rules of_sections of_judge of_routes of_slots of_renumber of_addresses of_listing of_writing of_defaults of_edits of_reader of_book of_history of_saving
+unfolding of_words of_refusals of_reasons of_rooms of_sums of_numbers of_layout of_buses of_ranges of_dump of_pointer of_table of_rules of_sections of_judge of_routes of_slots of_renumber of_addresses of_listing of_writing of_defaults of_edits of_reader of_book of_history of_saving
 computed = 0

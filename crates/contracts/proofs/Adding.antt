@@ -1,11 +1,13 @@
 -- Saves and restores, made one after another by whoever it may be, are a run of the definition: ask 3's promises of a run hold of
 -- the code's own answers, from Rattle and from C. Assumes nothing.
+use Rattle.std.specs.Prelude.{Result}
 use Prim.Native.Nat.{ℕ}
 use mathlib.Core.Path.{◌≡◌, refl, ap, ◌∙◌}
 use mathlib.Core.List.{List, [], ◌∷◌}
 use Rattle.mps.specs.Words.{each, put}
 use Rattle.mps.specs.Book.{layout1, book_of, rows_of}
 use Rattle.mps.specs.Saving.{Ask, save, restore, added, add_left, add_run, add_answers}
+use Rattle.mps.specs.declared.refusals.Refusal.{Refusal}
 use Rattle.mps.specs.declared.Booked.{Booked}
 use Rattle.pages.proofs.Bytes.{readable1}
 use Rattle.saving.proofs.save.Reads as save_reads
@@ -21,7 +23,7 @@ use Rattle.promises.proofs.Books.{Shelved, run_rows, run_book}
 -- ---- Calls of any kind, each of which leaves what the definition says
 
 module _ {C : Type 0} (room left : C → List ℕ) (asked : C → Ask) (leaves : (c : C) → left c ≡ add_left layout1 (room c) (asked c)) where
-  abbrev answered : C → Booked
+  abbrev answered : C → Result Booked Refusal
   answered c = added layout1 (room c) (asked c)
 
   turns_run : {s v : List ℕ} {cs : List C} → InTurn room left s cs v
@@ -32,7 +34,7 @@ module _ {C : Type 0} (room left : C → List ℕ) (asked : C → Ask) (leaves :
       let h = turns_run m in
       let asks = each asked cs in
       let same = leaves c in (
-        ap (λ (rs : List Booked). answered c ∷ rs) (h.0 ∙ ap (λ (u : List ℕ). add_answers layout1 u asks) same),
+        ap (λ (rs : List (Result Booked Refusal)). answered c ∷ rs) (h.0 ∙ ap (λ (u : List ℕ). add_answers layout1 u asks) same),
         h.1 ∙ ap (λ (u : List ℕ). add_run layout1 u asks) same,
       )
 
@@ -64,7 +66,7 @@ abbrev pub left_of : Adds → List ℕ
 left_of (saves c) = c.ends.0.now
 left_of (restores c) = c.ends.0.now
 
-abbrev pub answer_of : Adds → Booked
+abbrev pub answer_of : Adds → Result Booked Refusal
 answer_of (saves c) = c.answer
 answer_of (restores c) = c.answer
 

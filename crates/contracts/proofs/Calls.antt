@@ -1,5 +1,6 @@
 -- Calls of the editor, made one after another by whoever it may be, are a run of the definition: demand 3's promises of a run
 -- hold of the code's own answers, from Rattle and from C. Assumes nothing.
+use Rattle.std.specs.Prelude.{Result, Ok}
 use Prim.Native.Nat.{ℕ}
 use mathlib.Core.Path.{◌≡◌, refl, ap, ◌∙◌}
 use mathlib.Core.List.{List, [], ◌∷◌}
@@ -7,8 +8,7 @@ use Rattle.mps.specs.Words.{each}
 use Rattle.mps.specs.Layout.{extended_end, base_entries}
 use Rattle.mps.specs.Writing.{written, write_left}
 use Rattle.mps.specs.Edits.{Edit, edited, run, run_answers}
-use Rattle.mps.specs.declared.Lent.TheVariants.{Count}
-use Rattle.mps.specs.declared.Edited.{Edited}
+use Rattle.mps.specs.declared.refusals.EditRefusal.{EditRefusal}
 use Rattle.laws.proofs.Small.{Small}
 use Rattle.editor.specs.Tested.{edit_of}
 use Rattle.editor.proofs.edit.Reads as edit
@@ -40,7 +40,7 @@ asked_of c = edit_of c.given.1.0 c.given.1.1.0.now c.given.1.1.1.0.now
 abbrev pub left_of : Edits → List ℕ
 left_of c = c.ends.0.now
 
-abbrev pub answer_of : Edits → Edited
+abbrev pub answer_of : Edits → Result (Unit {0}) EditRefusal
 answer_of c = c.answer
 
 -- Each call's own postcondition says what the run asks of it.
@@ -63,7 +63,7 @@ module _ (t v : List ℕ) (cs : List Edits) (m : InTurn table_of left_of t cs v)
   -- and all of it is what the writer makes afresh of them and of the first one's other parts.
   pub edits_fresh : Good t → Small (wanted_of (each asked_of cs))
       → let p = parts_with t (put_in (base_entries t) (accepted (each asked_of cs) (each answer_of cs))) in
-      (written p t ≡ Count (extended_end t)) × (write_left p t ≡ v)
+      (written p t ≡ Ok (extended_end t)) × (write_left p t ≡ v)
   edits_fresh = calls_fresh t v (each asked_of cs) (each answer_of cs) (edits_calls m)
 
 -- ---- From C: the same, and each answer's number is that of the run's answer
@@ -84,7 +84,7 @@ abbrev pub code_for_c : EditsForC → ℕ
 code_for_c c = c.answer
 
 -- What an answer's number stands for.
-abbrev answer_for_c : EditsForC → Edited
+abbrev answer_for_c : EditsForC → Result (Unit {0}) EditRefusal
 answer_for_c c = edited (table_for_c c) (asked_for_c c)
 
 codes_are : (cs : List EditsForC) → each code_for_c cs ≡ each edited_code (each answer_for_c cs)
@@ -109,5 +109,5 @@ module _ (t v : List ℕ) (cs : List EditsForC) (m : InTurn table_for_c left_for
 
   pub c_edits_fresh : Good t → Small (wanted_of (each asked_for_c cs))
       → let p = parts_with t (put_in (base_entries t) (accepted (each asked_for_c cs) (run_answers t (each asked_for_c cs)))) in
-      (written p t ≡ Count (extended_end t)) × (write_left p t ≡ v)
+      (written p t ≡ Ok (extended_end t)) × (write_left p t ≡ v)
   c_edits_fresh g s = rw (calls_run (calls_for_c m)).0 at (calls_fresh t v (each asked_for_c cs) (each answer_for_c cs) (calls_for_c m) g s)

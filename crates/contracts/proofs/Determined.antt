@@ -3,6 +3,7 @@
 -- that it allows are equal (Forms). Assumes nothing.
 use mathlib.Core.Path.{sym, ◌∙◌}
 use Rattle.contracts.proofs.Forms.{Answers, Leaves, Determines, Decides, both, both_are}
+use Rattle.mps.proofs.refusals.Refusal.number.Reads as mps_refusals_Refusal_number
 use Rattle.sums.proofs.sum.Reads as sums_sum
 use Rattle.sums.proofs.to_store.Reads as sums_to_store
 use Rattle.numbers.proofs.byte.Reads as numbers_byte
@@ -32,7 +33,7 @@ use Rattle.entries.proofs.count.Reads as entries_count
 use Rattle.lengths.proofs.base.Reads as lengths_base
 use Rattle.lengths.proofs.extended.Reads as lengths_extended
 use Rattle.lengths.proofs.count.Reads as lengths_count
-use Rattle.header.proofs.refusal.Reads as header_refusal
+use Rattle.header.proofs.check.Reads as header_check
 use Rattle.header.proofs.wrong_extended.Reads as header_wrong_extended
 use Rattle.runs.proofs.size_of.Reads as runs_size_of
 use Rattle.sections.proofs.base.Reads as sections_base
@@ -49,7 +50,6 @@ use Rattle.spaces.proofs.wrong_mappings.Reads as spaces_wrong_mappings
 use Rattle.spaces.proofs.wrong_modifiers.Reads as spaces_wrong_modifiers
 use Rattle.parents.proofs.wrong.Reads as parents_wrong
 use Rattle.judge.proofs.judge.Reads as judge_judge
-use Rattle.judge.proofs.refusal.Reads as judge_refusal
 use Rattle.judge.proofs.examine.Reads as judge_examine
 use Rattle.regions.proofs.row.Reads as regions_row
 use Rattle.regions.specs.contracts.place_of as regions_place_of
@@ -123,6 +123,11 @@ use Rattle.exports.proofs.ruxtajma_body.Reads as ruxtajma_body
 use Rattle.exports.proofs.ruxtajma_history.Reads as ruxtajma_history
 use Rattle.exports.proofs.ruxtajma_save.Reads as ruxtajma_save
 use Rattle.exports.proofs.ruxtajma_restore.Reads as ruxtajma_restore
+
+-- ---- mps
+
+pub mps_refusals_Refusal_number_determined : Answers mps_refusals_Refusal_number.Post
+mps_refusals_Refusal_number_determined κ a x y s t p q = p ∙ sym q
 
 -- ---- sums
 
@@ -229,8 +234,8 @@ lengths_count_determined κ a x y s t p q = p ∙ sym q
 
 -- ---- header
 
-pub header_refusal_determined : Answers header_refusal.Post
-header_refusal_determined κ a x y s t p q = p ∙ sym q
+pub header_check_determined : Answers header_check.Post
+header_check_determined κ a x y s t p q = p ∙ sym q
 
 pub header_wrong_extended_determined : Answers header_wrong_extended.Post
 header_wrong_extended_determined κ a x y s t p q = p ∙ sym q
@@ -297,9 +302,6 @@ parents_wrong_determined κ a x y s t p q = p ∙ sym q
 
 pub judge_judge_determined : Answers judge_judge.Post
 judge_judge_determined κ a x y s t p q = p ∙ sym q
-
-pub judge_refusal_determined : Answers judge_refusal.Post
-judge_refusal_determined κ a x y s t p q = p ∙ sym q
 
 pub judge_examine_determined : Answers judge_examine.Post
 judge_examine_determined κ a x y s t p q = p ∙ sym q

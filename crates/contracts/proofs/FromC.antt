@@ -1,5 +1,6 @@
 -- Demand 1 as C sees it: a call whose code has a number in its low byte has written nothing into what it was lent. (What the
 -- writer leaves is in Rooms.) Assumes nothing.
+use Rattle.std.specs.Prelude.{Result}
 use Prim.Native.Nat.{ℕ}
 use mathlib.Core.Path.{◌≡◌, ap}
 use mathlib.Core.List.{List}
@@ -14,7 +15,7 @@ use Rattle.mps.specs.Edits.{Edit, edited, edit_left}
 use Rattle.mps.specs.Book.{BookLayout}
 use Rattle.mps.specs.History.{history_told, history_left}
 use Rattle.mps.specs.Saving.{Ask, added, add_left}
-use Rattle.mps.specs.declared.Edited.{Edited}
+use Rattle.mps.specs.declared.refusals.EditRefusal.{EditRefusal}
 use Rattle.exports.specs.Codes.{count_row, pair_row, refusal_in, lent_code, renumbered_code, edited_code, booked_code}
 use Rattle.exports.proofs.Told.{refused_in}
 use Rattle.promises.proofs.Kept.{list_kept, routes_kept, slot_kept, slots_kept, renumber_kept}
@@ -53,7 +54,7 @@ renumber_kept_c t room h = renumber_kept t room (refused_in pair_row (renumbered
 
 pub edit_kept_c : (t : List ℕ) (e : Edit) → (refusal_in (edited_code (edited t e)) ≡ 0 → ⊥) → edit_left t e ≡ t
 unfolding edited_code packed
-edit_kept_c t e h = refused_unchanged t e (λ d. h (ap (λ (r : Edited). refusal_in (edited_code r)) d))
+edit_kept_c t e h = refused_unchanged t e (λ d. h (ap (λ (r : Result (Unit {0}) EditRefusal). refusal_in (edited_code r)) d))
 
 pub history_kept_c : (l : BookLayout) (s room : List ℕ) → (refusal_in (lent_code (history_told l s room)) ≡ 0 → ⊥) → history_left l s room ≡ room
 unfolding lent_code

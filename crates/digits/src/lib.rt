@@ -7,27 +7,10 @@
 ghost use Rattle.std.specs.Prelude.{◌≡◌, ◌%◌};
 ghost use Rattle.mps.specs.Listing.{hex_digit};
 
-// A `match` of constants becomes a table and one load.
-#[tactic(auto, unfolding(mps::specs::Listing::hex_digit))]
+const DIGITS: [u8; 16] = *b"0123456789ABCDEF";
+
 pub fn hex(d: u8) -> u8
     ensures { result ≡ hex_digit (d % 16) }
 {
-    match d % 16 {
-        0 => 48,
-        1 => 49,
-        2 => 50,
-        3 => 51,
-        4 => 52,
-        5 => 53,
-        6 => 54,
-        7 => 55,
-        8 => 56,
-        9 => 57,
-        10 => 65,
-        11 => 66,
-        12 => 67,
-        13 => 68,
-        14 => 69,
-        _ => 70,
-    }
+    DIGITS[usize::from(d % 16)]
 }

@@ -13,9 +13,14 @@ use Rattle.mps.specs.Words.{among, any, part, first, head, below}
 use Rattle.mps.specs.Refusals.{Rule, refusal, inner_number}
 use Rattle.mps.specs.Rooms.{room_rules, lent_refusal}
 use Rattle.mps.specs.Layout.{base_length, extended_end, base_entries, book_most}
-use Rattle.mps.specs.Answers.{judged_numbers, judged_of, held_numbers, lent_numbers, lent_of, parted_numbers, parted_of, renumbered_numbers, renumbered_of}
-use Rattle.mps.specs.Answers.{seen_numbers, seen_of, links_of, edited_numbers, edited_of, found_numbers, found_of}
-use Rattle.mps.specs.Answers.{booked_numbers, booked_of, latest_numbers, latest_of, body_numbers, body_of}
+use Rattle.std.specs.Prelude.{Result, Ok, Err}
+use Rattle.mps.specs.Reasons.{number_of_refusal, refusal_numbered}
+use Rattle.mps.specs.Answers.{answered, numbers_of, judged_numbers, held_numbers, lent_numbers, parted_numbers, renumbered_numbers}
+use Rattle.mps.specs.Answers.{seen_values, seen_numbers, links_in, links_of, edited_numbers, found_numbers, found_of}
+use Rattle.mps.specs.Answers.{booked_numbers, latest_numbers, body_numbers}
+use Rattle.mps.specs.declared.refusals.Refusal.{Refusal}
+use Rattle.mps.specs.declared.refusals.EditRefusal.{EditRefusal}
+use Rattle.mps.specs.declared.refusals.EditRefusal.TheVariants.{Refused, Inner}
 use Rattle.mps.specs.Pointer.{is_default}
 use Rattle.mps.specs.Judge.{table_rules, table_refusal, pointer_rules, dump_rules, dump_refusal, judged, held}
 use Rattle.mps.specs.Listing.{listing, list_refusal, listed}
@@ -32,10 +37,10 @@ use Rattle.mps.specs.History.{book_rules, book_refusal, booked, latest_told, edi
 use Rattle.mps.specs.History.{history_refusal, history_told}
 use Rattle.mps.specs.Saving.{new_row, grown_book, addition_rules, grown, Ask, save, restore, addition, ask_rules, add_refusal, added}
 use Rattle.mps.specs.declared.Held.{Held}
-use Rattle.mps.specs.declared.Held.TheVariants.{Default, Table, Refused as Held-as-Refused}
-use Rattle.mps.specs.declared.Parted.TheVariants.{Parts as Parted-as-Parts}
+use Rattle.mps.specs.declared.Held.TheVariants.{Default, Table}
 use Rattle.mps.specs.declared.Seen.{Seen}
-use Rattle.mps.specs.declared.Seen.TheVariants.{No, Yes, Undeclared, Refused as Seen-as-Refused}
+use Rattle.mps.specs.declared.Seen.TheVariants.{No, Yes, Undeclared}
+use Rattle.laws.proofs.Answers.{refusal_small}
 use Rattle.laws.proofs.Tests.{whether}
 use Rattle.laws.proofs.Refusals.{number, first_none, refusal_below}
 use Rattle.laws.proofs.Lists.{keep_most}
@@ -60,12 +65,11 @@ use Rattle.writer.proofs.Most.{written_most}
 use Rattle.routes.proofs.Most.{routes_most, slot_most}
 use Rattle.slots.proofs.Laws.{slots_most_lem}
 use Rattle.addresses.proofs.Links.{links_most}
-use Rattle.addresses.proofs.Refuses.{of_seen, seen_by_raised}
 use Rattle.reader.proofs.Laws.{size_most}
 use Rattle.exports.specs.Codes.{count_row, pair_row, seen_row, held_row, addresses_row, edited_row, coded}
 use Rattle.exports.specs.Codes.{judged_code, lent_code, found_code, parted_code, renumbered_code, seen_code, edited_code, held_code, addresses_code}
 use Rattle.exports.specs.Codes.{booked_code, latest_code, body_code}
-use Rattle.exports.specs.Codes.{refusal_in, values_in, answered, numbers_in, edited_from, edited_in, held_from, held_in}
+use Rattle.exports.specs.Codes.{refusal_in, values_in, answered as read_back, numbers_in, edited_from, edited_in, held_from, held_in}
 
 -- ---- Of any code
 
@@ -78,7 +82,7 @@ module _ (row values : List ℕ) (n : ℕ) (h : n < 2 ^ 8) where
   unfolding packed
   values_in_lem = omega arith
 
-  told : Fit row values → numbers_in row (coded row (n ∷ values)) ≡ answered n (padded row values)
+  told : Fit row values → numbers_in row (coded row (n ∷ values)) ≡ read_back n (padded row values)
   unfolding numbers_in
   told f = rw (refusal_in_lem, values_in_lem, taken_packed row values f)
 
@@ -88,121 +92,72 @@ refused_in row [] h z = h refl
 refused_in row (n ∷ values) h z = h (rw z (refusal_in_lem row values 0 (omega arith)))
 
 -- A refusal has its number alone, whatever the row.
-refused : (row : List ℕ) (n : ℕ) → suc n < 2 ^ 8 → numbers_in row (coded row (suc n ∷ [])) ≡ suc n ∷ []
-refused row n h = told row [] (suc n) h (omega arith)
+refused : (row : List ℕ) (r : Refusal) → numbers_in row (coded row (number_of_refusal r ∷ [])) ≡ number_of_refusal r ∷ []
+refused row r = cases (number_of_refusal r) (refusal_small r)
+  where
+    cases : (n : ℕ) → (0 < n) × (n < 256) × (eqb n inner_number ≡ false) → numbers_in row (coded row (n ∷ [])) ≡ n ∷ []
+    cases zero h = absurd (omega (arith, h))
+    cases (suc n) h = told row [] (suc n) (omega (arith, h)) (omega arith)
 
 answer : (row values : List ℕ) → Fit row values → numbers_in row (coded row (0 ∷ values)) ≡ 0 ∷ padded row values
 answer row values f = told row values 0 (omega arith) f
 
--- An answer that has values where its number is 0, and else the number alone.
-coded_told : (row values : List ℕ) (numbers : ℕ → List ℕ) → padded row values ≡ values → numbers 0 ≡ 0 ∷ values
-    → ((n : ℕ) → numbers (suc n) ≡ suc n ∷ []) → (n : ℕ) → n < 2 ^ 8 → (n ≡ 0 → Fit row values)
-    → numbers_in row (coded row (numbers n)) ≡ numbers n
-coded_told row values numbers p z r zero h f = rw z (answer row values (f refl) ∙ rw p)
-coded_told row values numbers p z r (suc n) h f = rw (r n) (refused row n h)
-
--- The number that rows give has one byte if theirs have, which is computed.
-byte_below : (rows : List Rule) → any (λ (r : Rule). leb (2 ^ 8) (number r)) rows ≡ false → refusal rows < 2 ^ 8
-byte_below rows e = refusal_below (2 ^ 8) rows (omega arith) e
+-- An answer has its values, which are as wide as their row where nothing is refused.
+answer_told : {A : Type 0} (row : List ℕ) (values : A → List ℕ) (n : ℕ) (a : A) → padded row (values a) ≡ values a → (n ≡ 0 → Fit row (values a))
+    → numbers_in row (coded row (numbers_of values (answered n a))) ≡ numbers_of values (answered n a)
+answer_told row values zero a p f = answer row (values a) (f refl) ∙ rw p
+answer_told row values (suc n) a p f = refused row (refusal_numbered (suc n))
 
 -- ---- The judge
 
-pub table_below : (t : List ℕ) → table_refusal t < 2 ^ 8
-unfolding table_refusal table_rules any
-table_below t = byte_below (table_rules t) refl
-
-judged_told : (n : ℕ) → n < 2 ^ 8 → numbers_in [] (judged_code (judged_of n)) ≡ judged_numbers (judged_of n)
-unfolding judged_code
-judged_told n h = coded_told [] [] (λ k. judged_numbers (judged_of k)) refl refl (λ k. refl) n h (λ e. omega arith)
-
 pub judge_told : (t : List ℕ) → numbers_in [] (judged_code (judged t)) ≡ judged_numbers (judged t)
-unfolding judged
-judge_told t = judged_told (table_refusal t) (table_below t)
+unfolding judged judged_code
+judge_told t = answer_told [] (λ _. []) (table_refusal t) tt refl (λ e. omega arith)
 
 -- ---- The calls that are lent a room
 
-lent_told : (n count : ℕ) → n < 2 ^ 8 → (n ≡ 0 → count < 2 ^ 48) → numbers_in count_row (lent_code (lent_of n count)) ≡ lent_numbers (lent_of n count)
+lent_told : (n count : ℕ) → (n ≡ 0 → count < 2 ^ 48) → numbers_in count_row (lent_code (answered n count)) ≡ lent_numbers (answered n count)
 unfolding lent_code
-lent_told n count h f =
-    coded_told count_row (count ∷ []) (λ k. lent_numbers (lent_of k count)) refl refl (λ k. refl) n h (λ e. (f e, omega arith))
-
-list_below : (d room : List ℕ) → list_refusal d room < 2 ^ 8
-unfolding list_refusal lent_refusal room_rules dump_rules pointer_rules table_rules any
-list_below d room =
-    whether (is_default d)
-    (λ t. rw t (byte_below _ refl))
-    (λ f. rw f (byte_below _ refl))
+lent_told n count f = answer_told count_row (λ c. c ∷ []) n count refl (λ e. (f e, omega arith))
 
 pub list_told : (d room : List ℕ) → numbers_in count_row (lent_code (listed d room)) ≡ lent_numbers (listed d room)
 unfolding listed
 list_told d room =
-    lent_told (list_refusal d room) (length (listing d)) (list_below d room) (λ e. omega (arith, list_most d room e))
-
-full_below : (d : List ℕ) (boot : ℕ) (room : List ℕ) → full_refusal d boot room < 2 ^ 8
-unfolding full_refusal full_rules lent_refusal room_rules dump_rules pointer_rules table_rules any
-full_below d boot room =
-    whether (is_default d)
-    (λ t. rw t (byte_below _ refl))
-    (λ f. rw f (byte_below _ refl))
+    lent_told (list_refusal d room) (length (listing d)) (λ e. omega (arith, list_most d room e))
 
 pub full_told : (d : List ℕ) (boot : ℕ) (room : List ℕ) → numbers_in count_row (lent_code (full_listed d boot room)) ≡ lent_numbers (full_listed d boot room)
 unfolding full_listed
 full_told d boot room =
-    lent_told (full_refusal d boot room) (length (full_listing d boot)) (full_below d boot room)
+    lent_told (full_refusal d boot room) (length (full_listing d boot))
     (λ e. let n = full_none d boot room e in omega (arith, full_most d boot n.0 n.1))
-
-make_below : (n boot : ℕ) (room : List ℕ) → make_refusal n boot room < 2 ^ 8
-unfolding make_refusal lent_refusal room_rules any
-make_below n boot room = byte_below _ refl
 
 pub make_told : (n boot : ℕ) (room : List ℕ) → numbers_in count_row (lent_code (made n boot room)) ≡ lent_numbers (made n boot room)
 unfolding made
 make_told n boot room =
-    lent_told (make_refusal n boot room) (length (default_table n boot)) (make_below n boot room)
+    lent_told (make_refusal n boot room) (length (default_table n boot))
     (λ e. omega (arith, make_most n boot room e))
-
-first_below : (a b : ℕ) → a < 2 ^ 8 → b < 2 ^ 8 → first a b < 2 ^ 8
-first_below zero b h k = k
-first_below (suc a) b h k = h
-
-write_below : (p : Parts) (room : List ℕ) → write_refusal p room < 2 ^ 8
-unfolding write_refusal early_refusal lent_refusal room_rules part_rules any
-write_below p room =
-    first_below (early_refusal p room) (table_refusal (image p)) (byte_below _ refl) (table_below (image p))
 
 pub write_told : (p : Parts) (room : List ℕ) → numbers_in count_row (lent_code (written p room)) ≡ lent_numbers (written p room)
 unfolding written
-write_told p room = lent_told (write_refusal p room) (image_size p) (write_below p room) (λ e. omega (arith, written_most p room e))
+write_told p room = lent_told (write_refusal p room) (image_size p) (λ e. omega (arith, written_most p room e))
 
 -- From here on it is said of bytes, which is what a call is lent, where a value is as wide as the bytes that it is read from.
-route_below : (q : Question) (t room : List ℕ) → route_refusal q t room < 2 ^ 8
-unfolding route_refusal lent_refusal room_rules line_rules table_rules any
-route_below q t room = byte_below _ refl
-
 pub routes_told : (q : Question) (t room : List ℕ) → Bytes t → numbers_in count_row (lent_code (routed q t room)) ≡ lent_numbers (routed q t room)
 unfolding routed
 routes_told q t room b =
-    lent_told (route_refusal q t room) (length (routes_of q t) / pair_size) (route_below q t room)
+    lent_told (route_refusal q t room) (length (routes_of q t) / pair_size)
     (λ e. omega (arith, routes_most q t room b e))
-
-slot_below : (s : Slot) (t room : List ℕ) → slot_refusal s t room < 2 ^ 8
-unfolding slot_refusal lent_refusal room_rules slot_rules table_rules any
-slot_below s t room = byte_below _ refl
 
 pub slot_told : (s : Slot) (t room : List ℕ) → Bytes t → numbers_in count_row (lent_code (slot_routed s t room)) ≡ lent_numbers (slot_routed s t room)
 unfolding slot_routed
 slot_told s t room b =
-    lent_told (slot_refusal s t room) (length (slot_routes_of s t) / pair_size) (slot_below s t room)
+    lent_told (slot_refusal s t room) (length (slot_routes_of s t) / pair_size)
     (λ e. omega (arith, slot_most s t room b e))
-
-slots_below : (t room : List ℕ) → slots_refusal t room < 2 ^ 8
-unfolding slots_refusal lent_refusal room_rules table_rules any
-slots_below t room = byte_below _ refl
 
 pub slots_told : (t room : List ℕ) → numbers_in count_row (lent_code (slots_listed t room)) ≡ lent_numbers (slots_listed t room)
 unfolding slots_listed
 slots_told t room =
-    lent_told (slots_refusal t room) (length (slots_of t) / slot_size) (slots_below t room) (λ e. omega (arith, slots_most_lem t))
+    lent_told (slots_refusal t room) (length (slots_of t) / slot_size) (λ e. omega (arith, slots_most_lem t))
 
 -- ---- The entry at a place
 
@@ -217,29 +172,23 @@ entry_told t place b = found_told (size_at t place) (size_most t place b)
 
 -- ---- Where the parts of a table stand
 
-parted_told : (n base end : ℕ) → n < 2 ^ 8 → (n ≡ 0 → Fit pair_row (base ∷ end ∷ []))
-    → numbers_in pair_row (parted_code (parted_of n (Parted-as-Parts base end))) ≡ parted_numbers (parted_of n (Parted-as-Parts base end))
+parted_told : (n base end : ℕ) → (n ≡ 0 → Fit pair_row (base ∷ end ∷ []))
+    → numbers_in pair_row (parted_code (answered n (record { base = base; end = end }))) ≡ parted_numbers (answered n (record { base = base; end = end }))
 unfolding parted_code
-parted_told n base end h f =
-    coded_told pair_row (base ∷ end ∷ []) (λ k. parted_numbers (parted_of k (Parted-as-Parts base end))) refl refl (λ k. refl) n h f
+parted_told n base end f = answer_told pair_row (λ x. x.base ∷ x.end ∷ []) n (record { base = base; end = end }) refl f
 
 pub parts_told : (t : List ℕ) → numbers_in pair_row (parted_code (parted t)) ≡ parted_numbers (parted t)
 unfolding parted
 parts_told t =
-    parted_told (table_refusal t) (base_length t) (extended_end t) (table_below t)
+    parted_told (table_refusal t) (base_length t) (extended_end t)
     (λ e. let s = sound t e in (omega (arith, s.most), (omega (arith, s.most, s.extended_most), omega arith)))
 
 -- ---- The new numbers
 
-renumbered_told : (n count used : ℕ) → n < 2 ^ 8 → (n ≡ 0 → Fit pair_row (count ∷ used ∷ []))
-    → numbers_in pair_row (renumbered_code (renumbered_of n count used)) ≡ renumbered_numbers (renumbered_of n count used)
+renumbered_told : (n count used : ℕ) → (n ≡ 0 → Fit pair_row (count ∷ used ∷ []))
+    → numbers_in pair_row (renumbered_code (answered n (record { count = count; used = used }))) ≡ renumbered_numbers (answered n (record { count = count; used = used }))
 unfolding renumbered_code
-renumbered_told n count used h f =
-    coded_told pair_row (count ∷ used ∷ []) (λ k. renumbered_numbers (renumbered_of k count used)) refl refl (λ k. refl) n h f
-
-renumber_below : (t room : List ℕ) → renumber_refusal t room < 2 ^ 8
-unfolding renumber_refusal renumber_rules room_rules table_rules any
-renumber_below t room = byte_below _ refl
+renumbered_told n count used f = answer_told pair_row (λ x. x.count ∷ x.used ∷ []) n (record { count = count; used = used }) refl f
 
 -- An answer is of an accepted table.
 renumber_accepted : (t room : List ℕ) → renumber_refusal t room ≡ 0 → table_refusal t ≡ 0
@@ -254,81 +203,61 @@ bits_most used = omega (arith, keep_most (λ (n : ℕ). among n used) (below 256
 pub renumber_told : (t room : List ℕ) → Bytes t → numbers_in pair_row (renumbered_code (renumbered t room)) ≡ renumbered_numbers (renumbered t room)
 unfolding renumbered
 renumber_told t room b =
-    renumbered_told (renumber_refusal t room) (length (new_numbers_of t)) (bits_set (used_numbers (base_entries t))) (renumber_below t room)
+    renumbered_told (renumber_refusal t room) (length (new_numbers_of t)) (bits_set (used_numbers (base_entries t)))
     (λ e. (omega (arith, new_most t (renumber_accepted t room e) b), (omega (arith, bits_most (used_numbers (base_entries t))), omega arith)))
 
 -- ---- The book of earlier tables
 
-booked_told : (n rows size : ℕ) → n < 2 ^ 8 → (n ≡ 0 → Fit pair_row (rows ∷ size ∷ []))
-    → numbers_in pair_row (booked_code (booked_of n rows size)) ≡ booked_numbers (booked_of n rows size)
+booked_told : (n rows size : ℕ) → (n ≡ 0 → Fit pair_row (rows ∷ size ∷ []))
+    → numbers_in pair_row (booked_code (answered n (record { rows = rows; size = size }))) ≡ booked_numbers (answered n (record { rows = rows; size = size }))
 unfolding booked_code
-booked_told n rows size h f =
-    coded_told pair_row (rows ∷ size ∷ []) (λ k. booked_numbers (booked_of k rows size)) refl refl (λ k. refl) n h f
+booked_told n rows size f = answer_told pair_row (λ x. x.rows ∷ x.size ∷ []) n (record { rows = rows; size = size }) refl f
 
 -- Where a book is within its bytes, its rows are not more.
 book_fit : (rows : List Row) → length (book_of layout1 rows) ≤ book_most → Fit pair_row (length rows ∷ length (book_of layout1 rows) ∷ [])
 unfolding bodies_at
 book_fit rows h = (omega (arith, h, length_book layout1 rows), (omega (arith, h), omega arith))
 
-book_below : (s : List ℕ) → book_refusal layout1 s < 2 ^ 8
-unfolding book_refusal book_rules any
-book_below s = byte_below _ refl
-
 pub book_told : (s : List ℕ) → numbers_in pair_row (booked_code (booked layout1 s)) ≡ booked_numbers (booked layout1 s)
 unfolding booked
 book_told s =
-    booked_told (book_refusal layout1 s) (length (rows_of layout1 s)) (length (book_of layout1 (rows_of layout1 s))) (book_below s)
+    booked_told (book_refusal layout1 s) (length (rows_of layout1 s)) (length (book_of layout1 (rows_of layout1 s)))
     (λ e. book_fit (rows_of layout1 s) (book_most_lem layout1 s ((book_answered layout1 s).0 e)))
 
-latest_told_of : (n edition : ℕ) → n < 2 ^ 8 → edition < 2 ^ 48
-    → numbers_in count_row (latest_code (latest_of n edition)) ≡ latest_numbers (latest_of n edition)
+latest_told_of : (n edition : ℕ) → edition < 2 ^ 48
+    → numbers_in count_row (latest_code (answered n edition)) ≡ latest_numbers (answered n edition)
 unfolding latest_code
-latest_told_of n edition h f =
-    coded_told count_row (edition ∷ []) (λ k. latest_numbers (latest_of k edition)) refl refl (λ k. refl) n h (λ e. (f, omega arith))
+latest_told_of n edition f = answer_told count_row (λ e. e ∷ []) n edition refl (λ e. (f, omega arith))
 
 pub latest_told_lem : (s : List ℕ) (machine : ℕ) → Bytes s
     → numbers_in count_row (latest_code (latest_told layout1 s machine)) ≡ latest_numbers (latest_told layout1 s machine)
 unfolding latest_told
 latest_told_lem s machine b =
-    latest_told_of (book_refusal layout1 s) (latest machine (rows_of layout1 s)) (book_below s)
+    latest_told_of (book_refusal layout1 s) (latest machine (rows_of layout1 s))
     (omega (arith, latest_below machine (rows_of layout1 s) (rows_fit layout1 s b)))
 
-body_told_of : (n size start : ℕ) → n < 2 ^ 8 → (n ≡ 0 → Fit pair_row (size ∷ start ∷ []))
-    → numbers_in pair_row (body_code (body_of n size start)) ≡ body_numbers (body_of n size start)
+body_told_of : (n size start : ℕ) → (n ≡ 0 → Fit pair_row (size ∷ start ∷ []))
+    → numbers_in pair_row (body_code (answered n (record { size = size; start = start }))) ≡ body_numbers (answered n (record { size = size; start = start }))
 unfolding body_code
-body_told_of n size start h f =
-    coded_told pair_row (size ∷ start ∷ []) (λ k. body_numbers (body_of k size start)) refl refl (λ k. refl) n h f
-
-edition_below : (s : List ℕ) (machine edition : ℕ) → edition_refusal layout1 s machine edition < 2 ^ 8
-unfolding edition_refusal edition_rules any
-edition_below s machine edition = byte_below _ refl
+body_told_of n size start f = answer_told pair_row (λ x. x.size ∷ x.start ∷ []) n (record { size = size; start = start }) refl f
 
 pub body_told_lem : (s : List ℕ) (machine edition : ℕ)
     → numbers_in pair_row (body_code (body_told layout1 s machine edition)) ≡ body_numbers (body_told layout1 s machine edition)
 unfolding body_told
 body_told_lem s machine edition =
-    body_told_of (edition_refusal layout1 s machine edition) _ _ (edition_below s machine edition)
+    body_told_of (edition_refusal layout1 s machine edition) _ _
     (λ e.
     let g = (edition_answered layout1 s machine edition).0 e in
     let t = held_tells layout1 machine edition s readable1 g.0 g.1 in
     let m = book_most_lem layout1 s g.0 in
     (omega (arith, t.begins, t.size, t.ends, m), (omega (arith, t.begins, t.size, t.ends, m), omega arith)))
 
-history_below : (s room : List ℕ) → history_refusal layout1 s room < 2 ^ 8
-unfolding history_refusal lent_refusal room_rules book_rules any
-history_below s room = byte_below _ refl
-
 pub history_told_lem : (s room : List ℕ) → Bytes s
     → numbers_in count_row (lent_code (history_told layout1 s room)) ≡ lent_numbers (history_told layout1 s room)
 unfolding history_told
 history_told_lem s room b =
-    lent_told (history_refusal layout1 s room) (length (rows_of layout1 s)) (history_below s room)
+    lent_told (history_refusal layout1 s room) (length (rows_of layout1 s))
     (λ e. omega (arith, length_rows layout1 s, le_below 2 s 1 b))
-
-add_below : (s : List ℕ) (ask : Ask) → add_refusal layout1 s ask < 2 ^ 8
-unfolding add_refusal ask_rules addition_rules book_rules body_rules table_rules edition_rules any
-add_below s (save machine began body) = byte_below _ refl
-add_below s (restore machine old now) = byte_below _ refl
 
 -- What is added fits.
 added_most : (s : List ℕ) (ask : Ask) → add_refusal layout1 s ask ≡ 0 → length (grown_book layout1 s (addition layout1 s ask)) ≤ book_most
@@ -340,7 +269,7 @@ added_most s ask e =
 pub add_told : (s : List ℕ) (ask : Ask) → numbers_in pair_row (booked_code (added layout1 s ask)) ≡ booked_numbers (added layout1 s ask)
 unfolding added grown grown_book
 add_told s ask =
-    booked_told (add_refusal layout1 s ask) _ _ (add_below s ask) (λ e. grown-fit (added_most s ask e))
+    booked_told (add_refusal layout1 s ask) _ _ (λ e. grown-fit (added_most s ask e))
   where
     grown-fit : length (grown_book layout1 s (addition layout1 s ask)) ≤ book_most
         → Fit pair_row ((length (rows_of layout1 s) + 1) ∷ length (grown_book layout1 s (addition layout1 s ask)) ∷ [])
@@ -348,25 +277,23 @@ add_told s ask =
 
 -- ---- What a bus sees: a climb refuses nothing
 
-seen_told : (n : ℕ) (r : Seen) → n < 2 ^ 8 → links_of (seen_of n r) < 2 ^ 40 → of_seen r ≡ 0
-    → numbers_in seen_row (seen_code (seen_of n r)) ≡ seen_numbers (seen_of n r)
-unfolding seen_code of_seen
-seen_told zero (No k) h l f = answer seen_row (0 ∷ k ∷ []) (omega arith, (l, omega arith))
-seen_told zero (Yes k) h l f = answer seen_row (1 ∷ k ∷ []) (omega arith, (l, omega arith))
-seen_told zero (Undeclared k) h l f = answer seen_row (2 ∷ k ∷ []) (omega arith, (l, omega arith))
-seen_told zero (Seen-as-Refused n) h l f = absurd (omega arith)
-seen_told (suc n) r h l f = refused seen_row n h
+seen_fit : (r : Seen) → links_in r < 2 ^ 40 → Fit seen_row (seen_values r)
+seen_fit (No k) h = (omega arith, (h, omega arith))
+seen_fit (Yes k) h = (omega arith, (h, omega arith))
+seen_fit (Undeclared k) h = (omega arith, (h, omega arith))
 
-address_below : (t : List ℕ) (bus kind : ℕ) → refusal (address_rules t bus kind) < 2 ^ 8
-unfolding address_rules table_rules any
-address_below t bus kind = byte_below (address_rules t bus kind) refl
+seen_padded : (r : Seen) → padded seen_row (seen_values r) ≡ seen_values r
+seen_padded (No k) = refl
+seen_padded (Yes k) = refl
+seen_padded (Undeclared k) = refl
 
 pub address_told : (t : List ℕ) (bus kind address : ℕ) → Bytes t
     → numbers_in seen_row (seen_code (seen t bus kind address)) ≡ seen_numbers (seen t bus kind address)
-unfolding seen
+unfolding seen seen_code
 address_told t bus kind address b =
-    seen_told (refusal (address_rules t bus kind)) (seen_by t bus kind address) (address_below t bus kind)
-    (omega (arith, links_most t bus kind address b)) (seen_by_raised t bus kind address)
+    let r = seen_by t bus kind address in
+    answer_told seen_row seen_values (refusal (address_rules t bus kind)) r (seen_padded r)
+    (λ e. seen_fit r (omega (arith, links_most t bus kind address b, ap (λ n. links_of (answered n r)) e)))
 
 -- ---- What became of an edit
 
@@ -374,49 +301,41 @@ edited_in_lem : (numbers : List ℕ) → Fit edited_row numbers → edited_in (p
 unfolding edited_in
 edited_in_lem numbers f = rw (taken_packed edited_row numbers f)
 
-edited_told : (n inner : ℕ) → n < 2 ^ 8 → inner < 2 ^ 8 → edited_in (edited_code (edited_of n inner)) ≡ edited_numbers (edited_of n inner)
+edited_told : (r : Result (Unit {0}) EditRefusal) → edited_in (edited_code r) ≡ edited_numbers r
 unfolding edited_code
-edited_told zero inner h k = edited_in_lem (0 ∷ []) (omega arith, omega arith)
-edited_told (suc n) inner h k =
-    whether (eqb (suc n) inner_number)
-    (λ t. rw t (edited_in_lem (inner_number ∷ inner ∷ []) (omega arith, (k, omega arith))))
-    (λ f. rw f (rw f at (edited_in_lem (suc n ∷ []) (h, omega arith))))
-
-edit_below : (t : List ℕ) (e : Edit) → edit_refusal t e < 2 ^ 8
-unfolding edit_refusal edit_rules table_rules any
-edit_below t e = byte_below (edit_rules t e) refl
+edited_told (Ok u) = edited_in_lem (0 ∷ []) (omega arith, omega arith)
+edited_told (Err (Refused r)) = cases (number_of_refusal r) (refusal_small r)
+  where
+    cases : (n : ℕ) → (0 < n) × (n < 256) × (eqb n inner_number ≡ false) → edited_in (packed edited_row (n ∷ [])) ≡ n ∷ []
+    cases n h = rw h.2 at (edited_in_lem (n ∷ []) (h.1, omega arith))
+edited_told (Err (Inner r)) = edited_in_lem (inner_number ∷ number_of_refusal r ∷ []) (omega arith, ((refusal_small r).1, omega arith))
 
 pub edit_told : (t : List ℕ) (e : Edit) → edited_in (edited_code (edited t e)) ≡ edited_numbers (edited t e)
-unfolding edited inner_refusal
-edit_told t e = edited_told (edit_refusal t e) (inner_refusal t e) (edit_below t e) (table_below (edited_table t e))
+edit_told t e = edited_told (edited t e)
 
 -- ---- What a dump holds: both codes together
 
 module _ (n : ℕ) (places addresses : List ℕ) where
   held_told : n < 2 ^ 8 → Fit held_row places → Fit addresses_row addresses
       → held_in (coded held_row (n ∷ places)) (packed addresses_row addresses)
-      ≡ answered n (held_from (padded held_row places) (padded addresses_row addresses))
+      ≡ read_back n (held_from (padded held_row places) (padded addresses_row addresses))
   unfolding held_in
   held_told h f g =
       rw (refusal_in_lem held_row places n h, values_in_lem held_row places n h, taken_packed held_row places f, taken_packed addresses_row addresses g)
-
-dump_below : (d : List ℕ) → dump_refusal d < 2 ^ 8
-unfolding dump_refusal dump_rules pointer_rules table_rules any
-dump_below d =
-    whether (is_default d)
-    (λ t. rw t (byte_below _ refl))
-    (λ f. rw f (byte_below _ refl))
 
 pub read_told : (d : List ℕ) → Bytes d → held_in (held_code (held d)) (addresses_code (held d)) ≡ held_numbers (held d)
 unfolding held_code addresses_code
 read_told d small = cases (held d) refl
   where
-    cases : (r : Held) → held d ≡ r → held_in (held_code r) (addresses_code r) ≡ held_numbers r
-    cases (Default zero b) q = absurd (omega (arith, (default_narrow d zero b q).0))
-    cases (Default (suc n) b) q =
+    refusals : (n : ℕ) → (0 < n) × (n < 256) × (eqb n inner_number ≡ false) → held_in (coded held_row (n ∷ [])) (packed addresses_row []) ≡ n ∷ []
+    refusals zero h = absurd (omega (arith, h))
+    refusals (suc n) h = held_told (suc n) [] [] h.1 (omega arith) (omega arith)
+    cases : (r : Result Held Refusal) → held d ≡ r → held_in (held_code r) (addresses_code r) ≡ held_numbers r
+    cases (Ok (Default zero b)) q = absurd (omega (arith, (default_narrow d zero b q).0))
+    cases (Ok (Default (suc n) b)) q =
         let k = default_narrow d (suc n) b q in
         held_told 0 (suc n ∷ b ∷ []) [] (omega arith) (omega (arith, k.1), (omega (arith, k.2), omega arith)) (omega arith)
-    cases (Table p b a s e) q =
+    cases (Ok (Table p b a s e)) q =
         let k = table_narrow d p b a s e small q in
         let h = held_table d p b a s e q in
         let w = h.1 in
@@ -428,5 +347,4 @@ read_told d small = cases (held d) refl
         rw end at (held_told 0 (0 ∷ b ∷ s ∷ (e - s) ∷ []) (a ∷ p ∷ []) (omega arith)
         (omega arith, (omega (arith, k.1), (start, (size, omega arith))))
         (k.2, (k.0, omega arith)))
-    cases (Held-as-Refused zero) q = absurd (omega (arith, (held_number d zero q).1))
-    cases (Held-as-Refused (suc n)) q = held_told (suc n) [] [] (omega (arith, (held_number d (suc n) q).0, dump_below d)) (omega arith) (omega arith)
+    cases (Err r) q = refusals (number_of_refusal r) (refusal_small r)

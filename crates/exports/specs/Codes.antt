@@ -1,23 +1,20 @@
 -- An answer as one number for C, what C takes out of it again, and the arguments of a call from C as the definitions take
 -- them. include/ruxtajma.h says the same in its words.
-use Rattle.std.specs.Prelude.{ℕ, zero, suc, ◌+◌, ◌-◌, ◌/◌, ◌%◌, ◌^◌, List, [], ◌∷◌, get_or, eqb}
+use Rattle.std.specs.Prelude.{ℕ, zero, suc, ◌+◌, ◌-◌, ◌/◌, ◌%◌, ◌^◌, List, [], ◌∷◌, get_or, eqb, Result, Ok, Err, Option}
 use Rattle.packs.specs.Packs.{packed, taken}
 use Rattle.mps.specs.Words.{exactly, only}
 use Rattle.mps.specs.Refusals.{inner_number}
-use Rattle.mps.specs.Answers.{judged_numbers, lent_numbers, found_numbers, parted_numbers, renumbered_numbers, seen_numbers, edited_numbers, booked_numbers, latest_numbers, body_numbers}
+use Rattle.mps.specs.Answers.{numbers_of, judged_numbers, lent_numbers, found_numbers, parted_numbers, renumbered_numbers, seen_numbers, edited_numbers, booked_numbers, latest_numbers, body_numbers}
+use Rattle.mps.specs.declared.refusals.Refusal.{Refusal}
+use Rattle.mps.specs.declared.refusals.EditRefusal.{EditRefusal}
 use Rattle.mps.specs.declared.Fields.{Fields}
-use Rattle.mps.specs.declared.Judged.{Judged}
-use Rattle.mps.specs.declared.Lent.{Lent}
-use Rattle.mps.specs.declared.Found.{Found}
 use Rattle.mps.specs.declared.Parted.{Parted}
 use Rattle.mps.specs.declared.Renumbered.{Renumbered}
 use Rattle.mps.specs.declared.Seen.{Seen}
-use Rattle.mps.specs.declared.Edited.{Edited}
 use Rattle.mps.specs.declared.Booked.{Booked}
-use Rattle.mps.specs.declared.Latest.{Latest}
 use Rattle.mps.specs.declared.Body.{Body}
 use Rattle.mps.specs.declared.Held.{Held}
-use Rattle.mps.specs.declared.Held.TheVariants.{Default, Table, Refused}
+use Rattle.mps.specs.declared.Held.TheVariants.{Default, Table}
 
 -- ---- The rows: how many bits each value of an answer has, from bit 16 on, the first in the lowest
 
@@ -49,53 +46,52 @@ abbrev pub coded : List ℕ → List ℕ → ℕ
 coded row [] = 0
 coded row (number ∷ values) = packed (8 ∷ 8 ∷ row) (number ∷ 0 ∷ values)
 
-unfoldable pub judged_code : Judged → ℕ
+unfoldable pub judged_code : Result (Unit {0}) Refusal → ℕ
 judged_code answer = coded [] (judged_numbers answer)
 
-unfoldable pub lent_code : Lent → ℕ
+unfoldable pub lent_code : Result ℕ Refusal → ℕ
 lent_code answer = coded count_row (lent_numbers answer)
 
-unfoldable pub found_code : Found → ℕ
+unfoldable pub found_code : Option ℕ → ℕ
 found_code answer = coded count_row (found_numbers answer)
 
-unfoldable pub parted_code : Parted → ℕ
+unfoldable pub parted_code : Result Parted Refusal → ℕ
 parted_code answer = coded pair_row (parted_numbers answer)
 
-unfoldable pub renumbered_code : Renumbered → ℕ
+unfoldable pub renumbered_code : Result Renumbered Refusal → ℕ
 renumbered_code answer = coded pair_row (renumbered_numbers answer)
 
-unfoldable pub booked_code : Booked → ℕ
+unfoldable pub booked_code : Result Booked Refusal → ℕ
 booked_code answer = coded pair_row (booked_numbers answer)
 
-unfoldable pub latest_code : Latest → ℕ
+unfoldable pub latest_code : Result ℕ Refusal → ℕ
 latest_code answer = coded count_row (latest_numbers answer)
 
-unfoldable pub body_code : Body → ℕ
+unfoldable pub body_code : Result Body Refusal → ℕ
 body_code answer = coded pair_row (body_numbers answer)
 
-unfoldable pub seen_code : Seen → ℕ
+unfoldable pub seen_code : Result Seen Refusal → ℕ
 seen_code answer = coded seen_row (seen_numbers answer)
 
-unfoldable pub edited_code : Edited → ℕ
+unfoldable pub edited_code : Result (Unit {0}) EditRefusal → ℕ
 edited_code answer = packed edited_row (edited_numbers answer)
 
 -- What a dump holds is told in two codes. The first has the number of a default configuration, 0 for a table; the IMCR bit;
 -- then where a table begins, and how many bytes lie from there to the end of its region.
-abbrev pub held_places : Held → List ℕ
-held_places (Default number imcr) = 0 ∷ number ∷ imcr ∷ []
-held_places (Table pointer imcr address start end) = 0 ∷ 0 ∷ imcr ∷ start ∷ (end - start) ∷ []
-held_places (Refused n) = n ∷ []
+abbrev pub held_shown : Held → List ℕ
+held_shown (Default number imcr) = number ∷ imcr ∷ []
+held_shown (Table pointer imcr address start end) = 0 ∷ imcr ∷ start ∷ (end - start) ∷ []
 
-unfoldable pub held_code : Held → ℕ
-held_code answer = coded held_row (held_places answer)
+unfoldable pub held_code : Result Held Refusal → ℕ
+held_code answer = coded held_row (numbers_of held_shown answer)
 
 -- The second is the one code with no refusal in it: the table's address and the floating pointer's.
-abbrev pub held_addresses : Held → List ℕ
-held_addresses (Default number imcr) = []
-held_addresses (Table pointer imcr address start end) = address ∷ pointer ∷ []
-held_addresses (Refused n) = []
+abbrev pub held_addresses : Result Held Refusal → List ℕ
+held_addresses (Ok (Default number imcr)) = []
+held_addresses (Ok (Table pointer imcr address start end)) = address ∷ pointer ∷ []
+held_addresses (Err refusal) = []
 
-unfoldable pub addresses_code : Held → ℕ
+unfoldable pub addresses_code : Result Held Refusal → ℕ
 addresses_code answer = packed addresses_row (held_addresses answer)
 
 -- ---- What C takes out of a code: the functions of the header, by shifts and masks there

@@ -11,7 +11,7 @@
 // nothing of the call that its answer comes from; that nothing is there to cut is part of the same theorems.
 #![tactic(auto)]
 
-ghost use Rattle.std.specs.Prelude.{◌≡◌, ◌+◌, ◌-◌, ◌*◌, ◌%◌, ◌^◌};
+ghost use Rattle.std.specs.Prelude.{◌≡◌};
 ghost use Rattle.mps.specs.Judge.{judged, held};
 ghost use Rattle.mps.specs.Listing.{listed, list_left};
 ghost use Rattle.mps.specs.Defaults.{full_listed, full_left, made, make_left};
@@ -30,180 +30,23 @@ ghost use Rattle.writer.specs.Laid.{parts_given};
 ghost use Rattle.editor.specs.Tested.{edit_of};
 ghost use Rattle.exports.specs.Codes.{judged_code, lent_code, seen_code, edited_code, held_code, addresses_code, parted_code, renumbered_code, found_code, booked_code, latest_code, body_code, fields_given};
 
-use mps::{Body, Booked, Edited, Fields, Found, Held, Latest, Lent, Parted, Renumbered, Seen};
+use codes::{addresses_code, code, edited_code, found_code};
+use mps::Fields;
 
-// ---- An answer as one number
-
-// The second byte, the third, and so on.
-
-const BYTE: u64 = 256;
-
-const TWO_BYTES: u64 = 65536;
-
-const FOUR_BYTES: u64 = 0x100000000;
-
-const FIVE_BYTES: u64 = 0x10000000000;
-
-const SIX_BYTES: u64 = 0x1000000000000;
-
-const INNER: u64 = 23;
-
-// The values stand above the refusal's number and the inner one.
-fn above(values: u64) -> u64
-    ensures { result ≡ 2 ^ 16 * (values % 2 ^ 48) }
-{
-    TWO_BYTES * (values % SIX_BYTES)
-}
-
-fn lent_code(answer: Lent) -> u64
-    ensures { result ≡ lent_code answer }
-{
-    match answer {
-        Lent::Count(n) => above(n as u64),
-        Lent::Refused(n) => n as u64,
-    }
-}
-
-fn found_code(answer: Found) -> u64
-    ensures { result ≡ found_code answer }
-{
-    match answer {
-        Found::Whole(size) => above(size as u64),
-        Found::Nothing => 0,
-    }
-}
-
-// Two values, by the widths of `pair_row`: of the parts of a table, of new numbers, of a book and of a body in it.
-fn pair(first: usize, second: usize) -> u64
-    ensures { result ≡ 2 ^ 16 * (first % 2 ^ 16 + 2 ^ 16 * (second % 2 ^ 32)) }
-{
-    above(first as u64 % TWO_BYTES + TWO_BYTES * (second as u64 % FOUR_BYTES))
-}
-
-fn parted_code(answer: Parted) -> u64
-    ensures { result ≡ parted_code answer }
-{
-    match answer {
-        Parted::Parts { base, end } => pair(base, end),
-        Parted::Refused(n) => n as u64,
-    }
-}
-
-fn renumbered_code(answer: Renumbered) -> u64
-    ensures { result ≡ renumbered_code answer }
-{
-    match answer {
-        Renumbered::Given { count, used } => pair(count, used),
-        Renumbered::Refused(n) => n as u64,
-    }
-}
-
-fn booked_code(answer: Booked) -> u64
-    ensures { result ≡ booked_code answer }
-{
-    match answer {
-        Booked::Book { rows, size } => pair(rows, size),
-        Booked::Refused(n) => n as u64,
-    }
-}
-
-fn latest_code(answer: Latest) -> u64
-    ensures { result ≡ latest_code answer }
-{
-    match answer {
-        Latest::Edition(edition) => above(edition as u64),
-        Latest::Refused(n) => n as u64,
-    }
-}
-
-fn body_code(answer: Body) -> u64
-    ensures { result ≡ body_code answer }
-{
-    match answer {
-        Body::Stands { size, start } => pair(size, start),
-        Body::Refused(n) => n as u64,
-    }
-}
-
-fn seen_code(answer: Seen) -> u64
-    ensures { result ≡ seen_code answer }
-{
-    match answer {
-        Seen::No(links) => above(BYTE * (links as u64 % FIVE_BYTES)),
-        Seen::Yes(links) => above(1 + BYTE * (links as u64 % FIVE_BYTES)),
-        Seen::Undeclared(links) => above(2 + BYTE * (links as u64 % FIVE_BYTES)),
-        Seen::Refused(n) => n as u64,
-    }
-}
-
-fn edited_code(answer: Edited) -> u64
-    ensures { result ≡ edited_code answer }
-{
-    match answer {
-        Edited::Done => 0,
-        Edited::Refused(n) => n as u64,
-        Edited::Inner(n) => INNER + BYTE * n as u64,
-    }
-}
-
-// How many bytes lie between two places.
-fn between(start: usize, end: usize) -> u64
-    ensures { result ≡ end - start }
-{
-    if end < start {
-        return 0;
-    }
-    (end - start) as u64
-}
-
-fn held_code(answer: Held) -> u64
-    ensures { result ≡ held_code answer }
-{
-    match answer {
-        Held::Default { number, imcr } => above(number as u64 + BYTE * imcr as u64),
-        Held::Table {
-            pointer,
-            imcr,
-            address,
-            start,
-            end,
-        } => above(
-            BYTE * imcr as u64
-                + TWO_BYTES * (start as u64 % TWO_BYTES)
-                + FOUR_BYTES * (between(start, end) % TWO_BYTES),
-        ),
-        Held::Refused(n) => n as u64,
-    }
-}
-
-fn addresses_code(answer: Held) -> u64
-    ensures { result ≡ addresses_code answer }
-{
-    match answer {
-        Held::Default { number, imcr } => 0,
-        Held::Table {
-            pointer,
-            imcr,
-            address,
-            start,
-            end,
-        } => address as u64 + FOUR_BYTES * pointer as u64,
-        Held::Refused(n) => 0,
-    }
-}
+mod codes; // an answer as one number
 
 // ---- Of a table
 
 pub fn ruxtajma_judge(t: &[u8]) -> u64
     ensures { result ≡ judged_code (judged t.now) }
 {
-    judge::refusal(t) as u64
+    code(judge::judge(t))
 }
 
 pub fn ruxtajma_parts(t: &[u8]) -> u64
     ensures { result ≡ parted_code (parted t.now) }
 {
-    parted_code(writer::parts(t))
+    code(writer::parts(t))
 }
 
 pub fn ruxtajma_entry(t: &[u8], place: usize) -> u64
@@ -217,7 +60,7 @@ pub fn ruxtajma_entry(t: &[u8], place: usize) -> u64
 pub fn ruxtajma_read(d: &[u8]) -> u64
     ensures { result ≡ held_code (held d.now) }
 {
-    held_code(dump::read(d))
+    code(dump::read(d))
 }
 
 pub fn ruxtajma_addresses(d: &[u8]) -> u64
@@ -230,14 +73,14 @@ pub fn ruxtajma_list(d: &[u8], room: &mut [u8]) -> u64
     ensures value { result ≡ lent_code (listed d.now room.old) }
     ensures room_after { room.new ≡ list_left d.now room.old }
 {
-    lent_code(listing::list(d, room))
+    code(listing::list(d, room))
 }
 
 pub fn ruxtajma_list_full(d: &[u8], boot: u8, room: &mut [u8]) -> u64
     ensures value { result ≡ lent_code (full_listed d.now boot room.old) }
     ensures room_after { room.new ≡ full_left d.now boot room.old }
 {
-    lent_code(listing::full(d, boot, room))
+    code(listing::full(d, boot, room))
 }
 
 // ---- Of a default configuration
@@ -246,7 +89,7 @@ pub fn ruxtajma_default_table(number: u8, boot: u8, room: &mut [u8]) -> u64
     ensures value { result ≡ lent_code (made number boot room.old) }
     ensures room_after { room.new ≡ make_left number boot room.old }
 {
-    lent_code(defaults::make(number, boot, room))
+    code(defaults::make(number, boot, room))
 }
 
 // ---- Queries
@@ -255,41 +98,41 @@ pub fn ruxtajma_io_routes(t: &[u8], itype: u8, bus: u8, irq: u8, room: &mut [u8]
     ensures value { result ≡ lent_code (routed (question io_side itype bus irq) t.now room.old) }
     ensures room_after { room.new ≡ routes_left (question io_side itype bus irq) t.now room.old }
 {
-    lent_code(routes::io(t, itype, bus, irq, room))
+    code(routes::io(t, itype, bus, irq, room))
 }
 
 pub fn ruxtajma_local_routes(t: &[u8], itype: u8, bus: u8, irq: u8, room: &mut [u8]) -> u64
     ensures value { result ≡ lent_code (routed (question local_side itype bus irq) t.now room.old) }
     ensures room_after { room.new ≡ routes_left (question local_side itype bus irq) t.now room.old }
 {
-    lent_code(routes::local(t, itype, bus, irq, room))
+    code(routes::local(t, itype, bus, irq, room))
 }
 
 pub fn ruxtajma_slot_routes(t: &[u8], bus: u8, device: u8, pin: u8, room: &mut [u8]) -> u64
     ensures value { result ≡ lent_code (slot_routed (slot bus device pin) t.now room.old) }
     ensures room_after { room.new ≡ slot_routes_left (slot bus device pin) t.now room.old }
 {
-    lent_code(routes::slot(t, bus, device, pin, room))
+    code(routes::slot(t, bus, device, pin, room))
 }
 
 pub fn ruxtajma_slots(t: &[u8], room: &mut [u8]) -> u64
     ensures value { result ≡ lent_code (slots_listed t.now room.old) }
     ensures room_after { room.new ≡ slots_left t.now room.old }
 {
-    lent_code(slots::list(t, room))
+    code(slots::list(t, room))
 }
 
 pub fn ruxtajma_renumber(t: &[u8], room: &mut [u8]) -> u64
     ensures value { result ≡ renumbered_code (renumbered t.now room.old) }
     ensures room_after { room.new ≡ renumber_left t.now room.old }
 {
-    renumbered_code(renumbering::renumber(t, room))
+    code(renumbering::renumber(t, room))
 }
 
 pub fn ruxtajma_address(t: &[u8], bus: u8, kind: u8, address: u64) -> u64
     ensures { result ≡ seen_code (seen t.now bus kind address) }
 {
-    seen_code(addresses::seen(t, bus, kind, address))
+    code(addresses::seen(t, bus, kind, address))
 }
 
 // ---- Writing and editing
@@ -315,12 +158,12 @@ pub fn ruxtajma_write(
     let fields = Fields {
         oem: id,
         product: name,
-        pointer: pointer,
-        size: size,
-        apic: apic,
-        reserved: reserved,
+        pointer,
+        size,
+        apic,
+        reserved,
     };
-    lent_code(writer::write(fields, base, extended, room))
+    code(writer::write(fields, base, extended, room))
 }
 
 pub fn ruxtajma_edit(t: &mut [u8], place: usize, stated: &[u8], wanted: &[u8]) -> u64
@@ -335,38 +178,38 @@ pub fn ruxtajma_edit(t: &mut [u8], place: usize, stated: &[u8], wanted: &[u8]) -
 pub fn ruxtajma_book(s: &[u8]) -> u64
     ensures { result ≡ booked_code (booked layout1 s.now) }
 {
-    booked_code(book::measure(s))
+    code(book::measure(s))
 }
 
 pub fn ruxtajma_latest(s: &[u8], machine: u16) -> u64
     ensures { result ≡ latest_code (latest_told layout1 s.now machine) }
 {
-    latest_code(book::latest(s, machine))
+    code(book::latest(s, machine))
 }
 
 pub fn ruxtajma_body(s: &[u8], machine: u16, edition: u16) -> u64
     ensures { result ≡ body_code (body_told layout1 s.now machine edition) }
 {
-    body_code(book::body(s, machine, edition))
+    code(book::body(s, machine, edition))
 }
 
 pub fn ruxtajma_history(s: &[u8], room: &mut [u8]) -> u64
     ensures value { result ≡ lent_code (history_told layout1 s.now room.old) }
     ensures room_after { room.new ≡ history_left layout1 s.now room.old }
 {
-    lent_code(book::history(s, room))
+    code(book::history(s, room))
 }
 
 pub fn ruxtajma_save(room: &mut [u8], machine: u16, began: u16, body: &[u8]) -> u64
     ensures value { result ≡ booked_code (added layout1 room.old (save machine began body.now)) }
     ensures room_after { room.new ≡ add_left layout1 room.old (save machine began body.now) }
 {
-    booked_code(saving::save(room, machine, began, body))
+    code(saving::save(room, machine, began, body))
 }
 
 pub fn ruxtajma_restore(room: &mut [u8], machine: u16, edition: u16, latest: u16) -> u64
     ensures value { result ≡ booked_code (added layout1 room.old (restore machine edition latest)) }
     ensures room_after { room.new ≡ add_left layout1 room.old (restore machine edition latest) }
 {
-    booked_code(saving::restore(room, machine, edition, latest))
+    code(saving::restore(room, machine, edition, latest))
 }

@@ -7,15 +7,14 @@ use mathlib.Core.List.{List, [], ◌∷◌}
 use native.Mathlib.Omega.{arith}
 use native.Mathlib.Nat.{add-zero}
 use lib.ListN.{length, get_or, take, drop, length-drop, length-take, get_or-eq_default}
-use lib.Seq.{get_or-take, get_or-drop, length-take-le}
+use lib.Seq.{get_or-take, get_or-drop, length-take-le, take_all}
 use lib.Dec.{eqb, ltb, leb}
 use borrow.Author.Tests.{eqb-true, eq-eqb, ne_eqb, ltb-true, ltb-false, lt-ltb, le-ltb, leb-true, le-leb, not-false}
-use Rattle.mps.specs.Words.{first, flag, every, part}
+use Rattle.mps.specs.Words.{first, flag, every}
 use Rattle.mps.specs.Numbers.{le}
 use Rattle.mps.specs.Layout.{Entry, type, extended_entry_length, own_length}
 use Rattle.mps.specs.Table.{extended_fault, extended_from}
 use Rattle.laws.proofs.Tests.{and_parts, or_parts, either, whether}
-use Rattle.numbers.proofs.Laws.{le_row}
 use Rattle.laws.proofs.Cut.{cut_next, cut_done}
 use Rattle.std.specs.Prelude.{Some, None}
 use Rattle.runs.specs.Runs.{size_of, Ran}
@@ -263,6 +262,30 @@ module _ (s : List ℕ) (place : ℕ) where
         (λ t. t ∙ sym (others_stop (ltb-true place (length s) t) (λ a b c. omega (arith, a, b, l))))
         (λ t. t ∙ sym (rw (cut_done extended_entry_length s place (ltb-false place (length s) t))))
 
+-- The same of the rest of a slice that the loop has come to.
+module _ (s : List ℕ) (before : ℕ) where
+  pub rest_next :
+      (size : ℕ) → 131 ≤ before → size ≡ get_or s 1 0 → 2 ≤ size → size ≤ length s → before ≤ get_or s 0 0
+      → extended_from before (extended_entries_in s) ≡ extended_from (get_or s 0 0) (extended_entries_in (take (length s - size) (drop size s)))
+  rest_next size b e two h a =
+      let from : 0 + size ≡ size = omega arith in
+      rw (take_all (length s - size) (drop size s) (omega (arith, length-drop size s)))
+      (rw from at (others_next s 0 before size b e two (omega arith) a))
+
+  pub rest_short : 2 ≤ length s → get_or s 1 0 < 2 → extended_from before (extended_entries_in s) ≡ true
+  rest_short h n = others_stop s 0 before (omega arith) (λ a b c. omega (arith, a, n))
+
+  pub rest_cut : 2 ≤ length s → length s < get_or s 1 0 → extended_from before (extended_entries_in s) ≡ true
+  rest_cut h n = others_stop s 0 before (omega arith) (λ a b c. omega (arith, b, n))
+
+  pub rest_low : 2 ≤ length s → get_or s 0 0 < before → extended_from before (extended_entries_in s) ≡ true
+  rest_low h n = others_stop s 0 before (omega arith) (λ a b c. omega (arith, c, n))
+
+  pub rest_end : length s < 2 → ltb 0 (length s) ≡ extended_from before (extended_entries_in s)
+  rest_end h = others_end s 0 before (omega arith) (omega arith)
+
+pub ruleset rest_steps = (rest_next, rest_short, rest_cut, rest_low, rest_end)
+
 -- ---- What an accepted walk tells
 
 -- Whether an entry has the bytes that entries of its type have, and some.
@@ -340,8 +363,18 @@ module _
 
 -- ---- Type and length as one number
 
-pub first_two : (s : List ℕ) (place : ℕ) → le 2 (part place (place + 2) s) 0 ≡ get_or s place 0 + 256 * get_or s (place + 1) 0
+pub first_two :
+    (n : ℕ) (s : List ℕ) (place : ℕ) → 2 ≤ n → le 2 (take 2 (take n (drop place s))) 0 ≡ get_or s place 0 + 256 * get_or s (place + 1) 0
 unfolding le
-first_two s place =
-    let width : place + 2 - place ≡ 2 = omega arith in
-    rw (width, le_row 2 2 s place 0 (omega arith), add-zero) (omega arith)
+first_two n s place h =
+    let there = drop place s in
+    rw (
+      get_or-take 2 (take n there) 0 0 (omega arith),
+      get_or-take 2 (take n there) 1 0 (omega arith),
+      get_or-take n there 0 0 (omega (arith, h)),
+      get_or-take n there 1 0 (omega (arith, h)),
+      get_or-drop place s 0 0,
+      get_or-drop place s 1 0,
+      add-zero place,
+    )
+    (omega arith)

@@ -24,13 +24,6 @@ pub struct ExtendedSections {
     pub others: usize,
 }
 
-// A byte as a length. A cast in place would need a proof at each that the byte fits.
-fn wide(x: u8) -> usize
-    ensures { result ≡ x }
-{
-    x as usize
-}
-
 // The place behind the whole extended entries of one known type that stand from `at` on and say the length of their type.
 fn run_of(s: &[u8], at: usize, kind: u8) -> usize
     requires at_in_bounds { at ≤ length s.now }
@@ -39,41 +32,38 @@ fn run_of(s: &[u8], at: usize, kind: u8) -> usize
     ensures { Ran extended_own kind extended_entry_length s.now at result }
 {
     let size = runs::size_of(kind - layout::MAPPING_TYPE);
-    let first = wide(kind) + 256 * size;
-    let mut place = at;
-    while size <= s.len() - place {
-        // Type and length as one number: one load and one test an entry.
-        if numbers::le16(&s[place..place + layout::LEAST_LENGTH], 0) as usize != first {
-            return place;
-        }
-        place += size;
-    }
-    place
+    let first = usize::from(kind) + 256 * size;
+    // Type and length as one number: one load and one test an entry.
+    at + size
+        * s[at..]
+            .chunks_exact(size)
+            .take_while(|e| usize::from(numbers::le16(&e[..layout::LEAST_LENGTH], 0)) == first)
+            .count()
 }
 
 // Whether an entry is faulty among those from `at` on, which are behind the known types; a byte alone is one.
+#[tactic(auto, using(crate::proofs::ExtendedEntries::rest_steps))]
 fn others(s: &[u8], at: usize) -> bool
     requires { at ≤ length s.now }
     ensures { result ≡ extended_from 131 (extended_entries_in (drop at s.now)) }
 {
-    let mut place = at;
+    let mut rest = &s[at..];
     let mut before = layout::OTHER_TYPES;
-    while layout::LEAST_LENGTH <= s.len() - place {
-        let kind = s[place];
-        let size = wide(s[place + layout::ENTRY_LENGTH]);
+    while let [kind, size, ..] = *rest {
+        let size = usize::from(size);
         if size < layout::LEAST_LENGTH {
             return true;
         }
-        if s.len() - place < size {
+        if rest.len() < size {
             return true;
         }
         if kind < before {
             return true;
         }
         before = kind;
-        place += size;
+        rest = &rest[size..];
     }
-    place < s.len()
+    !rest.is_empty()
 }
 
 // `s` are the extended bytes. None where an entry is faulty: one refusal stands for all that can be wrong with them.

@@ -1,17 +1,21 @@
 -- Laws of `answered`: what a call answers by its number, and what the number is by what was answered. Assumes nothing.
-use Prim.Native.Nat.{ℕ, zero, suc}
+use Prim.Native.Nat.{ℕ, zero, suc, ◌<◌}
 use mathlib.Core.Path.{◌≡◌, refl, ap, sym, ◌∙◌}
 use mathlib.Core.Bool.{Bool, true, false, not, true≢false}
+use mathlib.Core.Logic.{◌↔◌}
 use mathlib.Core.List.{List, [], ◌∷◌}
 use native.Mathlib.Omega.{arith}
 use lib.Dec.{eqb}
 use borrow.Author.Tests.{eqb-true, ne_eqb}
 use Rattle.std.specs.Prelude.{Result, Ok, Err}
 use Rattle.mps.specs.Words.{among, any, each}
-use Rattle.mps.specs.Refusals.{Rule, ◌when◌, refusal}
+use Rattle.mps.specs.Refusals.{Rule, ◌when◌, refusal, inner_number}
 use Rattle.mps.specs.Reasons.{number_of_refusal, refusals, named, refusal_numbered}
 use Rattle.mps.specs.Answers.{number_of, answered, numbers_of}
 use Rattle.mps.specs.declared.refusals.Refusal.{Refusal}
+use Rattle.mps.specs.declared.refusals.Refusal.TheVariants.{BadDump, NoPointer, PointerRevision, FeatureByte, HeaderCut, Signature, BaseLength, BaseSum, Revision}
+use Rattle.mps.specs.declared.refusals.Refusal.TheVariants.{EntryType, EntryCut, EntryOrder, ExtendedPart, Processors, Buses, IoApics, Interrupts, Spaces}
+use Rattle.mps.specs.declared.refusals.Refusal.TheVariants.{RoomTooSmall, NoEntry, OtherEntry, Changed, Query, Slot, NumbersUsedUp, BadBook, NotLatest, BookFull, NoDefault}
 use Rattle.laws.proofs.Tests.{whether, or_parts}
 
 -- ---- What is answered
@@ -100,3 +104,79 @@ answered_number values (suc n) a h = number_numbered (suc n) (λ z. absurd (omeg
 -- and a refusal has it alone.
 pub refused_numbers : {A : Type 0} (values : A → List ℕ) (n : ℕ) (a : A) → Known (suc n) → numbers_of values (answered (suc n) a) ≡ suc n ∷ []
 refused_numbers values n a h = rw (number_numbered (suc n) (λ z. absurd (omega (arith, z))) h)
+
+-- No refusal has the number 0, nor that of an edit that would spoil the table, and each number has one byte.
+pub refusal_small : (r : Refusal) → (0 < number_of_refusal r) × (number_of_refusal r < 256) × (eqb (number_of_refusal r) inner_number ≡ false)
+refusal_small BadDump = (omega arith, omega arith, refl)
+refusal_small NoPointer = (omega arith, omega arith, refl)
+refusal_small PointerRevision = (omega arith, omega arith, refl)
+refusal_small FeatureByte = (omega arith, omega arith, refl)
+refusal_small HeaderCut = (omega arith, omega arith, refl)
+refusal_small Signature = (omega arith, omega arith, refl)
+refusal_small BaseLength = (omega arith, omega arith, refl)
+refusal_small BaseSum = (omega arith, omega arith, refl)
+refusal_small Revision = (omega arith, omega arith, refl)
+refusal_small EntryType = (omega arith, omega arith, refl)
+refusal_small EntryCut = (omega arith, omega arith, refl)
+refusal_small EntryOrder = (omega arith, omega arith, refl)
+refusal_small ExtendedPart = (omega arith, omega arith, refl)
+refusal_small Processors = (omega arith, omega arith, refl)
+refusal_small Buses = (omega arith, omega arith, refl)
+refusal_small IoApics = (omega arith, omega arith, refl)
+refusal_small Interrupts = (omega arith, omega arith, refl)
+refusal_small Spaces = (omega arith, omega arith, refl)
+refusal_small RoomTooSmall = (omega arith, omega arith, refl)
+refusal_small NoEntry = (omega arith, omega arith, refl)
+refusal_small OtherEntry = (omega arith, omega arith, refl)
+refusal_small Changed = (omega arith, omega arith, refl)
+refusal_small Query = (omega arith, omega arith, refl)
+refusal_small Slot = (omega arith, omega arith, refl)
+refusal_small NumbersUsedUp = (omega arith, omega arith, refl)
+refusal_small BadBook = (omega arith, omega arith, refl)
+refusal_small NotLatest = (omega arith, omega arith, refl)
+refusal_small BookFull = (omega arith, omega arith, refl)
+refusal_small NoDefault = (omega arith, omega arith, refl)
+
+-- A refusal is the one of its number.
+pub numbered_number : (r : Refusal) → refusal_numbered (number_of_refusal r) ≡ r
+unfolding refusal_numbered
+numbered_number BadDump = refl
+numbered_number NoPointer = refl
+numbered_number PointerRevision = refl
+numbered_number FeatureByte = refl
+numbered_number HeaderCut = refl
+numbered_number Signature = refl
+numbered_number BaseLength = refl
+numbered_number BaseSum = refl
+numbered_number Revision = refl
+numbered_number EntryType = refl
+numbered_number EntryCut = refl
+numbered_number EntryOrder = refl
+numbered_number ExtendedPart = refl
+numbered_number Processors = refl
+numbered_number Buses = refl
+numbered_number IoApics = refl
+numbered_number Interrupts = refl
+numbered_number Spaces = refl
+numbered_number RoomTooSmall = refl
+numbered_number NoEntry = refl
+numbered_number OtherEntry = refl
+numbered_number Changed = refl
+numbered_number Query = refl
+numbered_number Slot = refl
+numbered_number NumbersUsedUp = refl
+numbered_number BadBook = refl
+numbered_number NotLatest = refl
+numbered_number BookFull = refl
+numbered_number NoDefault = refl
+
+-- ---- What is answered, exactly when
+
+module _ {A : Type 0} (n : ℕ) (a : A) where
+  pub ok_exactly : (answered n a ≡ Ok a) ↔ (n ≡ 0)
+  ok_exactly = (λ e. (given_ok n a (sym e)).0, λ z. sym (answered_ok n a z))
+
+  pub err_exactly : (r : Refusal) → Known n → (answered n a ≡ Err r) ↔ (n ≡ number_of_refusal r)
+  err_exactly r k =
+      (λ e. let g = given_err n a (sym e) in sym (number_numbered n g.0 k) ∙ ap number_of_refusal (sym g.1),
+      λ h. sym (answered_err n a (λ z. absurd (omega (arith, refusal_small r, h, z))) (sym (numbered_number r) ∙ ap refusal_numbered (sym h))))

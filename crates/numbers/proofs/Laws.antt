@@ -1,16 +1,20 @@
 -- Laws of little-endian numbers, for any width. Assumes nothing.
-use Prim.Native.Nat.{ℕ, zero, suc, ◌+◌, ◌-◌, ◌*◌, ◌/◌, ◌%◌, ◌^◌, ◌<◌, ◌≤◌}
+use Prim.Native.Nat.{ℕ, zero, suc, ◌+◌, ◌-◌, ◌*◌, ◌/◌, ◌%◌, ◌^◌, ◌<◌, ◌≤◌, min}
 use mathlib.Core.Path.{◌≡◌, refl, ap, sym, ◌∙◌}
 use mathlib.Core.List.{List, [], ◌∷◌, ◌++◌, append_assoc, append-nil}
 use native.Mathlib.Omega.{arith}
 use native.Mathlib.Numerals.{add-one}
-use native.Mathlib.Nat.{zero-add, add-zero, suc-add, add_assoc, mul_assoc, lt_of_lt_of_le, one-le-pow, pow-le-pow_right, pow-suc, pow-succ'}
+use native.Mathlib.Nat.{zero-add, add-zero, suc-add, add_assoc, mul_assoc, one-le-pow, pow-suc, pow-succ', div-div-eq-div-mul, div-one}
 use lib.Arith.{mod-mul}
-use lib.ListN.{length, get_or, take, drop, set, get_or-eq_default}
+use lib.ListN.{length, get_or, take, drop, set, replicate, drop_of_length-le}
+use lib.Dec.{leb}
+use borrow.Author.Tests.{leb-true, leb-false}
+use Rattle.std.specs.Int.{w16, w32, w64, from_le_bytes, to_le_bytes, byte_at, bytes_low_first}
 use lib.Seq.{drop-append_seam, drop-cons, get_or-drop, get_or-take, length-take-le, take_all, sets, sets-eq}
 use Rattle.mps.specs.Numbers.{le, bytes}
-use Rattle.laws.proofs.Stores.{sets_take}
+use Rattle.laws.proofs.Stores.{sets_take, sets_past}
 use Rattle.laws.proofs.Parts.{alike}
+use Rattle.laws.proofs.Tests.{whether}
 
 -- ---- le
 
@@ -32,13 +36,18 @@ le_four s at = omega (arith, le_split 2 2 s at)
 pub le_eight : (s : List ℕ) (at : ℕ) → le 8 s at ≡ le 4 s at + le 4 s (at + 4) * 4294967296
 le_eight s at = omega (arith, le_split 4 4 s at)
 
--- One byte below the k - i bytes that stand from at + i on.
-pub le_next : (k i : ℕ) (s : List ℕ) (at : ℕ) → 0 < i → i ≤ k → le (k - (i - 1)) s (at + (i - 1)) ≡ get_or s (at + (i - 1)) 0 + 256 * le (k - i) s (at + i)
+-- In bytes that stand in two lists.
+pub le_alike :
+    (k : ℕ) (b : List ℕ) (i : ℕ) (s : List ℕ) (at : ℕ) → ((j : ℕ) → j < k → get_or b (i + j) 0 ≡ get_or s (at + j) 0) → le k b i ≡ le k s at
 unfolding le
-le_next k i s at h g =
-    let e : k - (i - 1) ≡ suc (k - i) = omega arith in
-    let f : at + (i - 1) + 1 ≡ at + i = omega arith in
-    rw (e, f)
+le_alike zero b i s at h = refl
+le_alike (suc k) b i s at h =
+    let e : get_or b i 0 ≡ get_or s at 0 = rw (add-zero i, add-zero at) at (h 0 (omega arith)) in
+    rw (
+      e,
+      le_alike k b (i + 1) s (at + 1)
+          (λ j p. let f : i + suc j ≡ i + 1 + j = omega arith in let g : at + suc j ≡ at + 1 + j = omega arith in rw (f, g) at (h (suc j) (omega arith))),
+    )
 
 pub le_drop : (k a : ℕ) (s : List ℕ) (at : ℕ) → le k (drop a s) at ≡ le k s (a + at)
 unfolding le
@@ -49,6 +58,43 @@ pub le_take : (k n : ℕ) (s : List ℕ) (at : ℕ) → at + k ≤ n → le k (t
 unfolding le
 le_take zero n s at h = refl
 le_take (suc k) n s at h = rw (get_or-take n s at 0 (omega arith), le_take k n s (at + 1) (omega arith))
+
+-- ---- What the library's conversions give of bytes at a place
+
+-- The first of the bytes from a place on.
+pub le_whole : (k : ℕ) (b s : List ℕ) (at : ℕ) → b ≡ take k (drop at s) → le k b 0 ≡ le k s at
+le_whole k b s at e = rw e (le_take k k (drop at s) 0 (omega arith) ∙ rw add-zero at (le_drop k at s 0))
+
+get_or-append_zeros : (b z : List ℕ) → ((j : ℕ) → get_or z j 0 ≡ 0) → (j : ℕ) → get_or (b ++ z) j 0 ≡ get_or b j 0
+get_or-append_zeros [] z h j = h j
+get_or-append_zeros (x ∷ b) z h zero = refl
+get_or-append_zeros (x ∷ b) z h (suc j) = get_or-append_zeros b z h j
+
+get_or-zeros : (n j : ℕ) → get_or (replicate {A = ℕ} n 0) j 0 ≡ 0
+get_or-zeros zero j = refl
+get_or-zeros (suc n) zero = refl
+get_or-zeros (suc n) (suc j) = get_or-zeros n j
+
+-- They, and 0 for those past the end.
+pub le_padded : (k m n : ℕ) (s : List ℕ) (at : ℕ) → le k (drop at s ++ drop m (replicate n 0)) 0 ≡ le k s at
+le_padded k m n s at =
+    le_alike k (drop at s ++ drop m (replicate n 0)) 0 s at
+    (λ j h. let e : 0 + j ≡ j = omega arith in
+    rw e
+    (get_or-append_zeros (drop at s) (drop m (replicate n 0)) (λ i. get_or-drop m (replicate n 0) i 0 ∙ get_or-zeros n (m + i)) j ∙ get_or-drop at s j 0))
+
+module _ (b s : List ℕ) (at r : ℕ) where
+  pub from_two : r ≡ from_le_bytes w16 b → le 2 b 0 ≡ le 2 s at → r ≡ le 2 s at
+  unfolding le
+  from_two e h = omega arith
+
+  pub from_four : r ≡ from_le_bytes w32 b → le 4 b 0 ≡ le 4 s at → r ≡ le 4 s at
+  unfolding le
+  from_four e h = omega arith
+
+  pub from_eight : r ≡ from_le_bytes w64 b → le 8 b 0 ≡ le 8 s at → r ≡ le 8 s at
+  unfolding le
+  from_eight e h = omega arith
 
 -- In lists with the same first n bytes.
 pub alike_le : (n : ℕ) (t u : List ℕ) → take n u ≡ take n t → (k at : ℕ) → at + k ≤ n → le k u at ≡ le k t at
@@ -66,30 +112,10 @@ le_row k n s a at h = le_take k n (drop a s) at h ∙ le_drop k a s at
 pub le_append : (k : ℕ) (a b : List ℕ) (at : ℕ) → le k (a ++ b) (length a + at) ≡ le k b at
 le_append k a b at = rw (← le_drop k (length a) (a ++ b) at, drop-append_seam)
 
-pub le_past : (k : ℕ) (s : List ℕ) (at : ℕ) → length s ≤ at → le k s at ≡ 0
-unfolding le
-le_past zero s at h = refl
-le_past (suc k) s at h = rw (get_or-eq_default s 0 h, le_past k s (at + 1) (omega arith))
-
--- The bytes that are there are all of a number that reaches past the end.
-pub le_rest_lem : (n k : ℕ) (s : List ℕ) (at : ℕ) → n ≡ length s - at → n ≤ k → le n s at ≡ le k s at
-le_rest_lem n k s at e h =
-    let w : n + (k - n) ≡ k = omega arith in
-    let p = le_past (k - n) s (at + n) (omega arith) in
-    sym (rw (w, p) at (le_split n (k - n) s at) ∙ omega arith)
-
--- A number of n bytes fits where k bytes do.
-pub fits_within : (n k r : ℕ) → n ≤ k → r < 256 ^ n → r < 256 ^ k
-fits_within n k r h b = lt_of_lt_of_le b (pow-le-pow_right (omega arith) h)
-
 pub le_below : (k : ℕ) (s : List ℕ) (at : ℕ) → ((i : ℕ) → get_or s i 0 < 256) → le k s at < 256 ^ k
 unfolding le
 le_below zero s at b = omega arith
 le_below (suc k) s at b = rw pow-succ' (omega (arith, b at, le_below k s (at + 1) b))
-
--- In a type of n bytes there is room for k.
-pub le_within : (k n : ℕ) (s : List ℕ) (at : ℕ) → k ≤ n → ((i : ℕ) → get_or s i 0 < 256) → le k s at < 256 ^ n
-le_within k n s at h b = lt_of_lt_of_le (le_below k s at b) (pow-le-pow_right (omega arith) h)
 
 -- ---- bytes
 
@@ -138,13 +164,42 @@ bytes_wrap k n =
 
 -- ---- bytes stored
 
--- One of the k bytes of n is stored.
-pub bytes_next : (s : List ℕ) (at k n : ℕ) → (k ≡ 0 → ⊥) → sets s at (bytes k n) ≡ sets (set s at (n % 256)) (at + 1) (bytes (k - 1) (n / 256))
+-- The library's low bytes of a number are its bytes.
+low_byte : (i n : ℕ) → byte_at i n ≡ n / 256 ^ i % 256
+low_byte zero n = omega arith
+low_byte (suc i) n = refl
+
+low_bytes : (i k n : ℕ) → bytes_low_first i k n ≡ bytes k (n / 256 ^ i)
 unfolding bytes
-bytes_next s at zero n h = absurd (h refl)
-bytes_next s at (suc k) n h =
-    let e : suc k - 1 ≡ k = omega arith in
-    rw (add-one, e)
+low_bytes i zero n = refl
+low_bytes i (suc k) n =
+    let e : n / 256 ^ i / 256 ≡ n / 256 ^ suc i = rw pow-suc (div-div-eq-div-mul n (256 ^ i) 256) in
+    rw (low_byte i n, e, low_bytes (suc i) k n)
+
+low_all : (k n : ℕ) → bytes_low_first 0 k n ≡ bytes k n
+low_all k n = low_bytes 0 k n ∙ rw div-one
+
+module _ (t u w : List ℕ) (at n : ℕ) where
+  pub to_two : w ≡ to_le_bytes w16 n → u ≡ sets t at w → u ≡ sets t at (bytes 2 n)
+  to_two e h = h ∙ ap (λ (v : List ℕ). sets t at v) (e ∙ low_all 2 n)
+
+  pub to_four : w ≡ to_le_bytes w32 n → u ≡ sets t at w → u ≡ sets t at (bytes 4 n)
+  to_four e h = h ∙ ap (λ (v : List ℕ). sets t at v) (e ∙ low_all 4 n)
+
+  pub to_eight : w ≡ to_le_bytes w64 n → u ≡ sets t at w → u ≡ sets t at (bytes 8 n)
+  to_eight e h = h ∙ ap (λ (v : List ℕ). sets t at v) (e ∙ low_all 8 n)
+
+-- Of the bytes from k on, one is stored, or none has room.
+module _ (t w : List ℕ) (at k : ℕ) where
+  pub put_next : k < length w → sets t (at + k) (drop k w) ≡ sets (set t (at + k) (get_or w k 0)) (at + (k + 1)) (drop (k + 1) w)
+  put_next h = let e : at + suc k ≡ suc (at + k) = omega arith in rw (add-one, drop-cons w k 0 h, e)
+
+  pub put_done : min (length t - at) (length w) ≤ k → sets t (at + k) (drop k w) ≡ t
+  put_done h =
+      whether
+      (leb (length w) k)
+      (λ e. rw (drop_of_length-le w (leb-true (length w) k e)))
+      (λ e. let f = leb-false (length w) k e in sets_past t (at + k) (drop k w) (omega arith))
 
 -- What was stored is read back.
 pub le_sets : (k n : ℕ) (s : List ℕ) (at : ℕ) → at + k ≤ length s → le k (sets s at (bytes k n)) at ≡ n % 256 ^ k

@@ -3,122 +3,93 @@
 // end reads as 0, and a store past the end does nothing. proofs/Laws.antt has the laws over any width.
 #![tactic(auto)]
 
-ghost use Rattle.std.specs.Prelude.{◌≡◌, ◌+◌, ◌-◌, ◌^◌, ◌≤◌, ◌<◌, length, get_or};
+ghost use Rattle.std.specs.Prelude.{◌≡◌, ◌+◌, ◌-◌, ◌^◌, ◌≤◌, ◌<◌, length, get_or, drop};
 ghost use Rattle.std.proofs.lemmas.List.Edits.{sets};
 ghost use Rattle.mps.specs.Numbers.{le, bytes};
 
 pub fn byte(s: &[u8], at: usize) -> u8
     ensures { result ≡ get_or s.now at 0 }
 {
-    if at < s.len() { s[at] } else { 0 }
+    s.get(at).copied().unwrap_or(0)
 }
 
 // The bound is said because a caller sees a number, and not that it came from a byte.
 pub fn wide(x: u8) -> u64
     ensures { (result ≡ x) × (result < 256) }
 {
-    x as u64
+    u64::from(x)
 }
 
-// How many bytes stand from a place on.
-fn left(s: &[u8], at: usize) -> usize
-    ensures { result ≡ length s.now - at }
+// What stands from a place on.
+fn from(s: &[u8], at: usize) -> &[u8]
+    ensures { result.now ≡ drop at s.now }
 {
-    if at < s.len() { s.len() - at } else { 0 }
+    s.get(at..).unwrap_or(&[])
 }
 
-// The n bytes that stand from a place on: the way for the few numbers that reach past the end. From the highest byte
-// down, so that no power of 256 is held.
-fn le_rest(s: &[u8], at: usize, n: usize) -> u64
-    requires { (n ≤ 8) × (n ≤ length s.now - at) }
-    ensures { (result ≡ le n s.now at) × (result < 256 ^ n) }
+// The N bytes from a place on. Where all are there, no test stands between them, so that they are read by one load; those past
+// the end are 0.
+fn piece<const N: usize>(s: &[u8], at: usize) -> [u8; N]
+    ensures { le N result 0 ≡ le N s.now at }
 {
-    let mut r: u64 = 0;
-    let mut i = n;
-    while 0 < i {
-        i -= 1;
-        r = r * 256 + wide(s[at + i]);
+    let rest = from(s, at);
+    match rest.first_chunk() {
+        Some(all) => *all,
+        None => {
+            let mut padded = [0; N];
+            padded[..rest.len()].copy_from_slice(rest);
+            padded
+        }
     }
-    r
 }
 
-// Bytes that are all there: no test stands between them, so that they are read by one load.
-fn two(s: &[u8], at: usize) -> u64
-    requires { at + 2 ≤ length s.now }
-    ensures { (result ≡ le 2 s.now at) × (result < 65536) }
-{
-    wide(s[at]) + wide(s[at + 1]) * 256
-}
-
-fn four(s: &[u8], at: usize) -> u64
-    requires { at + 4 ≤ length s.now }
-    ensures { (result ≡ le 4 s.now at) × (result < 4294967296) }
-{
-    two(s, at) + two(s, at + 2) * 65536
-}
-
+#[tactic(auto, using(crate::proofs::Laws::from_two))]
 pub fn le16(s: &[u8], at: usize) -> u16
     ensures { result ≡ le 2 s.now at }
 {
-    let n = left(s, at);
-    if n < 2 {
-        return le_rest(s, at, n) as u16;
-    }
-    two(s, at) as u16
+    u16::from_le_bytes(piece(s, at))
 }
 
+#[tactic(auto, using(crate::proofs::Laws::from_four))]
 pub fn le32(s: &[u8], at: usize) -> u32
     ensures { result ≡ le 4 s.now at }
 {
-    let n = left(s, at);
-    if n < 4 {
-        return le_rest(s, at, n) as u32;
-    }
-    four(s, at) as u32
+    u32::from_le_bytes(piece(s, at))
 }
 
+#[tactic(auto, using(crate::proofs::Laws::from_eight))]
 pub fn le64(s: &[u8], at: usize) -> u64
     ensures { result ≡ le 8 s.now at }
 {
-    let n = left(s, at);
-    if n < 8 {
-        return le_rest(s, at, n);
-    }
-    four(s, at) + four(s, at + 4) * 4294967296
+    u64::from_le_bytes(piece(s, at))
 }
 
-// Any width at any place.
-fn put_any(out: &mut [u8], at: usize, x: u64, k: usize)
-    ensures { out.new ≡ sets out.old at (bytes k x) }
+#[tactic(auto, using(crate::proofs::Laws::put_next, crate::proofs::Laws::put_done))]
+fn put<const N: usize>(out: &mut [u8], at: usize, x: [u8; N])
+    ensures { out.new ≡ sets out.old at x.entry }
 {
-    let mut i = at;
-    let mut rest = x;
-    let mut more = k;
-    while i < out.len() {
-        if more == 0 {
-            return;
-        }
-        out[i] = (rest % 256) as u8;
-        rest = rest / 256;
-        more -= 1;
-        i += 1;
+    for k in 0..out.len().saturating_sub(at).min(N) {
+        out[at + k] = x[k];
     }
 }
 
+#[tactic(auto, using(crate::proofs::Laws::to_two))]
 pub fn put16(out: &mut [u8], at: usize, x: u16)
     ensures { out.new ≡ sets out.old at (bytes 2 x) }
 {
-    put_any(out, at, x as u64, 2);
+    put(out, at, u16::to_le_bytes(x));
 }
 
+#[tactic(auto, using(crate::proofs::Laws::to_four))]
 pub fn put32(out: &mut [u8], at: usize, x: u32)
     ensures { out.new ≡ sets out.old at (bytes 4 x) }
 {
-    put_any(out, at, x as u64, 4);
+    put(out, at, u32::to_le_bytes(x));
 }
 
+#[tactic(auto, using(crate::proofs::Laws::to_eight))]
 pub fn put64(out: &mut [u8], at: usize, x: u64)
     ensures { out.new ≡ sets out.old at (bytes 8 x) }
 {
-    put_any(out, at, x, 8);
+    put(out, at, u64::to_le_bytes(x));
 }

@@ -1,7 +1,7 @@
 -- What the links of a table, its type 129 entries, may not say. Document 01, refusal 18: "extended bus or parent not listed;
 -- second type 129 entry for a bus; parents in a circle (self too)". Behind it stand the steps of the crate's private
--- functions, over an array that has a number for each bus: 0 for no link, p + 1 for a link to the parent p.
-use Rattle.std.specs.Prelude.{ℕ, zero, suc, ◌<◌, Bool, true, false, not, ◌||◌, List, [], ◌∷◌, get_or, set}
+-- functions, over an array that has the parent of each bus that has one.
+use Rattle.std.specs.Prelude.{ℕ, zero, suc, Bool, true, false, not, ◌||◌, List, [], ◌∷◌, Option, Some, None, get_or, set}
 use Rattle.mps.specs.Words.{any, twice, each}
 use Rattle.mps.specs.Layout.{Entry, extended_bus, parent_bus}
 use Rattle.mps.specs.Rules.{circle}
@@ -19,40 +19,40 @@ wrong_parents ls = twice (each extended_bus ls) || circle ls
 unfoldable pub wrong_links : List ℕ → List Entry → Bool
 wrong_links roll ls = any (wrong_hierarchy_in roll) ls || wrong_parents ls
 
--- Each link of the array leads to a bus.
-abbrev pub Array : List ℕ → Type 0
-Array up = (bus : ℕ) → get_or up bus 0 < 257
+-- The array: the parent of each bus that has one.
+abbrev pub Array : Type 0
+Array = List (Option ℕ)
 
 -- The array with one link stored.
-abbrev pub store : List ℕ → Entry → List ℕ
-store up e = set up (extended_bus e) (suc (parent_bus e))
+abbrev pub store : Array → Entry → Array
+store up e = set up (extended_bus e) (Some (parent_bus e))
 
 -- The array with every link stored.
-unfoldable pub filled : List ℕ → List Entry → List ℕ
+unfoldable pub filled : Array → List Entry → Array
 filled up [] = up
 filled up (e ∷ ls) = filled (store up e) ls
 
 -- Whether, as links are stored one by one, the bus of some link has one already.
-unfoldable pub clash : List ℕ → List Entry → Bool
+unfoldable pub clash : Array → List Entry → Bool
 clash up [] = false
-clash up (e ∷ ls) = elim (get_or up (extended_bus e) 0) [ zero ↦ clash (store up e) ls | suc p ↦ true ]
+clash up (e ∷ ls) = elim (get_or up (extended_bus e) None) [ None ↦ clash (store up e) ls | Some p ↦ true ]
 
 -- Whether some link is wrong by the roll, or clashes.
-unfoldable pub stopped : List ℕ → List ℕ → List Entry → Bool
+unfoldable pub stopped : List ℕ → Array → List Entry → Bool
 stopped roll up ls = any (wrong_hierarchy_in roll) ls || clash up ls
 
 -- Whether so many links can be climbed from a bus.
-unfoldable pub goes_on : ℕ → List ℕ → ℕ → Bool
+unfoldable pub goes_on : ℕ → Array → ℕ → Bool
 goes_on zero up bus = true
-goes_on (suc n) up bus = elim (get_or up bus 0) [ zero ↦ false | suc p ↦ goes_on n up p ]
+goes_on (suc n) up bus = elim (get_or up bus None) [ None ↦ false | Some p ↦ goes_on n up p ]
 
 -- The array without the links that are climbed from a bus, so many at most.
-unfoldable pub cleared : ℕ → List ℕ → ℕ → List ℕ
+unfoldable pub cleared : ℕ → Array → ℕ → Array
 cleared zero up bus = up
-cleared (suc n) up bus = elim (get_or up bus 0) [ zero ↦ up | suc p ↦ cleared n (set up bus 0) p ]
+cleared (suc n) up bus = elim (get_or up bus None) [ None ↦ up | Some p ↦ cleared n (set up bus None) p ]
 
 -- Whether so many links can be climbed from the bus of some entry, where each climb that ends is cleared before the next.
-unfoldable pub endless_in : ℕ → List ℕ → List Entry → Bool
+unfoldable pub endless_in : ℕ → Array → List Entry → Bool
 endless_in n up [] = false
 endless_in n up (e ∷ es) =
     elim (goes_on n up (extended_bus e)) [ true ↦ true | false ↦ endless_in n (cleared n up (extended_bus e)) es ]

@@ -6,102 +6,94 @@
 // The entries stand one behind the other, 8 bytes each; bytes behind the last whole one are passed over.
 #![tactic(auto)]
 
-ghost use Rattle.std.specs.Prelude.{◌≡◌, false, ◌+◌, ◌≤◌, ◌<◌, length, take, drop};
+ghost use Rattle.std.specs.Prelude.{◌≡◌, false, ◌≤◌, ◌<◌, length};
 ghost use Rattle.mps.specs.Layout.{link_size};
 ghost use Rattle.mps.specs.Sections.{rows};
-ghost use Rattle.parents.specs.Parents.{wrong_hierarchy_in, wrong_links, Array, filled, stopped, goes_on, cleared, endless_in};
+ghost use Rattle.parents.specs.Parents.{wrong_hierarchy_in, wrong_links, filled, stopped, goes_on, cleared, endless_in};
 
 use mps::layout;
 
-// The bound is said because a caller sees a number, and not that it came from a byte.
-fn wide(x: u8) -> u16
-    ensures { (result ≡ x) × (result < 256) }
+// The place of a bus in the array. The bound is said because of a parent out of the array a caller sees no more than that it is
+// a number.
+fn cell(bus: u8) -> usize
+    ensures { (result ≡ bus) × (result < 256) }
 {
-    x as u16
+    usize::from(bus)
 }
 
-fn wrong_link(s: &[u8], at: usize, roll: &[u8; 256]) -> bool
-    requires { at + link_size ≤ length s.now }
-    ensures { result ≡ wrong_hierarchy_in roll.now (take link_size (drop at s.now)) }
+#[tactic(auto, unfolding(crate::specs::Parents::wrong_hierarchy_in))]
+fn wrong_link(e: &[u8], roll: &[u8; 256]) -> bool
+    requires { length e.now ≡ link_size }
+    ensures { result ≡ wrong_hierarchy_in roll.now e.now }
 {
-    !roll::has(roll, s[at + layout::EXTENDED_BUS], roll::BUS)
-        | !roll::has(roll, s[at + layout::PARENT_BUS], roll::BUS)
+    !roll::has(roll, e[layout::EXTENDED_BUS], roll::BUS)
+        | !roll::has(roll, e[layout::PARENT_BUS], roll::BUS)
 }
 
-// Stores each link at its bus, as its parent plus 1; true at the first that is wrong by the roll, or whose bus has one
-// already.
-fn fill(up: &mut [u16; 256], s: &[u8], roll: &[u8; 256]) -> bool
-    requires { Array up.old }
+// Stores each link at its bus; true at the first that is wrong by the roll, or whose bus has one already.
+#[tactic(auto, using(crate::proofs::Laws::fill_steps))]
+fn fill(up: &mut [Option<u8>; 256], s: &[u8], roll: &[u8; 256]) -> bool
     ensures value { result ≡ stopped roll.now up.old (rows link_size s.now) }
     ensures up_after { result ≡ false → up.new ≡ filled up.old (rows link_size s.now) }
-    ensures array { Array up.new }
 {
-    let mut at = 0;
-    while layout::LINK_SIZE <= s.len() - at {
-        if wrong_link(s, at, roll) {
+    for e in s.chunks_exact(layout::LINK_SIZE) {
+        if wrong_link(e, roll) {
             return true;
         }
-        let bus = wide(s[at + layout::EXTENDED_BUS]) as usize;
-        if up[bus] != 0 {
+        let bus = cell(e[layout::EXTENDED_BUS]);
+        if up[bus].is_some() {
             return true;
         }
-        up[bus] = wide(s[at + layout::PARENT_BUS]) + 1;
-        at += layout::LINK_SIZE;
+        up[bus] = Some(e[layout::PARENT_BUS]);
     }
     false
 }
 
 // Whether so many links can be climbed from a bus.
-fn goes_on(up: &[u16; 256], bus: u8, links: usize) -> bool
-    requires { Array up.now }
+#[tactic(auto, using(crate::proofs::Laws::goes_steps))]
+fn goes_on(up: &[Option<u8>; 256], bus: u8, links: usize) -> bool
     ensures { result ≡ goes_on links up.now bus }
 {
-    let mut place = wide(bus) as usize;
-    let mut left = links;
-    while 0 < left {
-        let link = up[place];
-        if link == 0 {
+    let mut place = bus;
+    for _ in 0..links {
+        let Some(parent) = up[cell(place)] else {
             return false;
-        }
-        place = (link - 1) as usize;
-        left -= 1;
+        };
+        place = parent;
     }
     true
 }
 
 // Takes away the links that are climbed from a bus, so many at most.
-fn clear(up: &mut [u16; 256], bus: u8, links: usize)
-    requires { Array up.old }
+#[tactic(auto, using(crate::proofs::Laws::cleared_steps))]
+fn clear(up: &mut [Option<u8>; 256], bus: u8, links: usize)
     ensures { up.new ≡ cleared links up.old bus }
 {
-    let mut place = wide(bus) as usize;
-    let mut left = links;
-    while 0 < left {
-        let link = up[place];
-        if link == 0 {
+    let mut place = bus;
+    for _ in 0..links {
+        let Some(parent) = up[cell(place)] else {
             return;
-        }
-        up[place] = 0;
-        place = (link - 1) as usize;
-        left -= 1;
+        };
+        up[cell(place)] = None;
+        place = parent;
     }
 }
 
 // Whether so many links can be climbed from a bus. The links of a climb that ends are taken away: without them no later
 // climb goes over them again.
-fn climb(up: &mut [u16; 256], bus: u8, links: usize) -> bool
-    requires { Array up.old × (2 ≤ links) }
+#[tactic(auto, using(crate::proofs::Laws::climb_steps))]
+fn climb(up: &mut [Option<u8>; 256], bus: u8, links: usize) -> bool
+    requires { 2 ≤ links }
     ensures value { result ≡ goes_on links up.old bus }
     ensures up_after { result ≡ false → up.new ≡ cleared links up.old bus }
 {
     // The short way: no link, or one to a bus that has none.
-    let at = wide(bus) as usize;
-    let link = up[at];
-    if link == 0 {
+    let at = cell(bus);
+    let Some(parent) = up[at] else {
         return false;
-    }
-    if up[(link - 1) as usize] == 0 {
-        up[at] = 0;
+    };
+    if up[cell(parent)].is_none() {
+        up[at] = None;
         return false;
     }
     if goes_on(up, bus, links) {
@@ -112,16 +104,15 @@ fn climb(up: &mut [u16; 256], bus: u8, links: usize) -> bool
 }
 
 // Whether so many links can be climbed from the bus of some entry.
-fn endless(up: &mut [u16; 256], s: &[u8], links: usize) -> bool
-    requires { Array up.old × (2 ≤ links) }
+#[tactic(auto, using(crate::proofs::Laws::endless_steps))]
+fn endless(up: &mut [Option<u8>; 256], s: &[u8], links: usize) -> bool
+    requires { 2 ≤ links }
     ensures { result ≡ endless_in links up.old (rows link_size s.now) }
 {
-    let mut at = 0;
-    while layout::LINK_SIZE <= s.len() - at {
-        if climb(up, s[at + layout::EXTENDED_BUS], links) {
+    for e in s.chunks_exact(layout::LINK_SIZE) {
+        if climb(up, e[layout::EXTENDED_BUS], links) {
             return true;
         }
-        at += layout::LINK_SIZE;
     }
     false
 }
@@ -134,7 +125,7 @@ pub fn wrong(s: &[u8], roll: &[u8; 256]) -> bool
     if s.len() < layout::LINK_SIZE {
         return false;
     }
-    let mut up: [u16; 256] = [0; 256];
+    let mut up: [Option<u8>; 256] = [None; 256];
     if fill(&mut up, s, roll) {
         return true;
     }

@@ -17,14 +17,20 @@ use Rattle.mps.specs.Layout.{Entry, bus_type, space_kind_most, extended_bus, par
 use Rattle.mps.specs.Rules.{is_listed, ids_of, links, on_bus, parents_of, wrong_hierarchy}
 use Rattle.mps.specs.Judge.{table_rules, table_refusal}
 use Rattle.mps.specs.Addresses.{Say, says, answer, unclaimed, leaves, climb, seen_by, wrong_space, address_rules, seen}
-use Rattle.mps.specs.Answers.{links_of, seen_numbers, seen_of}
+use Rattle.std.specs.Prelude.{Ok, Err}
+use Rattle.mps.specs.Reasons.{number_of_refusal}
+use Rattle.mps.specs.Answers.{links_in, links_of}
+use Rattle.mps.specs.declared.refusals.Refusal.{Refusal}
 use Rattle.mps.specs.declared.Seen.{Seen}
-use Rattle.mps.specs.declared.Seen.TheVariants.{No, Yes, Undeclared, Refused}
+use Rattle.mps.specs.declared.Seen.TheVariants.{No, Yes, Undeclared}
 use Rattle.laws.proofs.Tests.{whether, or_parts}
 use Rattle.laws.proofs.Refusals.{so, refusal_none, given_before, given_exactly}
 use Rattle.laws.proofs.Circle.{parents_of_here, parents_of_skip}
 use Rattle.accepted.proofs.Obeyed.{obeyed}
-use Rattle.promises.proofs.Answered.{exactly, seen_of_lem}
+use Rattle.laws.proofs.Answers.{err_exactly}
+use Rattle.promises.specs.Numbered.{address_numbers}
+use Rattle.promises.proofs.Answered.{known}
+use Rattle.promises.proofs.Numbered.{address_numbered}
 use Rattle.promises.proofs.Given.{Exactly}
 use Rattle.addresses.proofs.Links.{links_leaves, links_climb, links_bound}
 use Rattle.addresses.proofs.Climbs.{parent_linked, answer_above}
@@ -38,19 +44,19 @@ use Rattle.promises.proofs.Climb.{seen_enough}
 -- its parent is come to only where nothing is left.
 record Way (xs : List Entry) (bus kind address before left : ℕ) (r : Seen) : Type 0 where
   more : ℕ
-  counted : links_of r ≡ before + more
+  counted : links_in r ≡ before + more
   asks : (k : ℕ) → k < more → says xs (above (links xs) k bus) kind address ≡ Say.parent
   ends : says xs (above (links xs) more bus) kind address ≡ Say.parent → more ≡ left
   answers : r ≡ down_to more xs bus kind address (answer (says xs (above (links xs) more bus) kind address) (before + more) (Undeclared (before + more)))
 
-links_own : (s : Say) (k : ℕ) → links_of (answer s k (Undeclared k)) ≡ k
+links_own : (s : Say) (k : ℕ) → links_in (answer s k (Undeclared k)) ≡ k
 links_own Say.no k = refl
 links_own Say.yes k = refl
 links_own Say.parent k = refl
 links_own Say.undeclared k = refl
 
 -- What is no word to ask the parent is another one.
-no_parent : (s : Say) → links_of (answer s 0 (No 1)) ≡ 0 → s ≡ Say.parent → ⊥
+no_parent : (s : Say) → links_in (answer s 0 (No 1)) ≡ 0 → s ≡ Say.parent → ⊥
 no_parent s e q = omega (arith, rw q at e)
 
 module _ (xs : List Entry) (kind address : ℕ) where
@@ -108,7 +114,7 @@ module _ (xs : List Entry) (kind address : ℕ) where
       way_said left bus k (says xs bus kind address) _ refl (way left (head bus (parents_of (links xs) bus)) (k + 1))
 
 -- A climb that has more to fall than links to climb ends at a bus that answers by itself.
-climbed : (t : List ℕ) (bus kind address left : ℕ) (r : Seen) → Way (extended_entries t) bus kind address 0 left r → links_of r < left
+climbed : (t : List ℕ) (bus kind address left : ℕ) (r : Seen) → Way (extended_entries t) bus kind address 0 left r → links_in r < left
     → Climbed t bus kind address r
 climbed t bus kind address left r w h =
     let m = w.counted ∙ zero-add w.more in
@@ -120,7 +126,7 @@ climbed t bus kind address left r w h =
 
 -- "The answer carries how many links to parents were climbed"
 pub seen_climbed : (t : List ℕ) (bus kind address : ℕ) → table_refusal t ≡ 0 → is_listed (base_entries t) bus ≡ true → kind ≤ space_kind_most
-    → Climbed t bus kind address (seen t bus kind address)
+    → (seen t bus kind address ≡ Ok (seen_by t bus kind address)) × Climbed t bus kind address (seen_by t bus kind address)
 unfolding seen_by
 seen_climbed t bus kind address a l k =
     let es = base_entries t in
@@ -128,9 +134,10 @@ seen_climbed t bus kind address a l k =
     let left = length (ids_of bus_type es) - 1 in
     let o = (obeyed t a).parents in
     let enough = seen_enough es xs o.listed o.rising bus l kind address 1 in
-    rw (← seen_answered t bus kind address a l k, ← enough)
+    (seen_answered t bus kind address a l k,
+    rw (← enough)
     (climbed t bus kind address (left + 1) _ (way xs kind address (left + 1) bus 0)
-    (rw enough (omega (arith, links_climb left xs bus kind address 0))))
+    (rw enough (omega (arith, links_climb left xs bus kind address 0)))))
 
 -- "by the definition that is at most the listed buses less one"
 pub seen_links : (t : List ℕ) (bus kind address : ℕ) → links_of (seen t bus kind address) ≤ length (ids_of bus_type (base_entries t)) - 1
@@ -156,7 +163,6 @@ leaves_onward xs up bus kind address = unclaimed-onward _ _
     unclaimed-onward false true (Yes k) = refl
     unclaimed-onward false false (Yes k) = refl
     unclaimed-onward claim silence (Undeclared k) = refl
-    unclaimed-onward claim silence (Refused n) = refl
 
 climb_onward : (left : ℕ) (xs : List Entry) (bus kind address k : ℕ)
     → climb left xs bus kind address (k + 1) ≡ onward (climb left xs bus kind address k)
@@ -179,12 +185,21 @@ parent_listed es (e ∷ ls) bus w n =
     (λ o. rw (parents_of_here bus e ls o) (not-false (is_listed es (parent_bus e)) p.1))
     (λ o. rw (parents_of_skip bus e ls o) (parent_listed es ls bus h.1 (rw (parents_of_skip bus e ls o) at n)))
 
+-- A bus that asks its parent has one that is answered.
+pub parent_answers : (t : List ℕ) (bus kind address : ℕ) → table_refusal t ≡ 0 → kind ≤ space_kind_most
+    → says (extended_entries t) bus kind address ≡ Say.parent
+    → seen t (parent_of t bus) kind address ≡ Ok (seen_by t (parent_of t bus) kind address)
+parent_answers t bus kind address a k e =
+    let xs = extended_entries t in
+    let o = (obeyed t a).parents in
+    seen_answered t (parent_of t bus) kind address a (parent_listed (base_entries t) (links xs) bus o.listed (parent_linked xs bus kind address e)) k
+
 -- "first that applies", of an accepted table, a listed bus and a kind: no, yes, the parent's answer, no, else undeclared. Of the
 -- parent's answer, as ask 5 amends it there, what the other buses with that parent leave.
 pub seen_says : (t : List ℕ) (bus kind address : ℕ) → table_refusal t ≡ 0 → is_listed (base_entries t) bus ≡ true → kind ≤ space_kind_most
     → seen t bus kind address
-    ≡ answer (says (extended_entries t) bus kind address) 0
-    (leaves (extended_entries t) (parent_of t bus) bus kind address (onward (seen t (parent_of t bus) kind address)))
+    ≡ Ok (answer (says (extended_entries t) bus kind address) 0
+    (leaves (extended_entries t) (parent_of t bus) bus kind address (onward (seen_by t (parent_of t bus) kind address))))
 unfolding climb seen_by
 seen_says t bus kind address a l k =
     let es = base_entries t in
@@ -192,21 +207,17 @@ seen_says t bus kind address a l k =
     let left = length (ids_of bus_type es) - 1 in
     let up = head bus (parents_of (links xs) bus) in
     let o = (obeyed t a).parents in
-    sym (seen_answered t bus kind address a l k)
-    ∙ sym (seen_enough es xs o.listed o.rising bus l kind address 1)
-    ∙ rw (add-one left)
-    (answer_above (says xs bus kind address) 0
-    (λ e. ap (leaves xs up bus kind address) (climb_onward left xs up kind address 0
-    ∙ ap onward (seen_answered t up kind address a (parent_listed es (links xs) bus o.listed (parent_linked xs bus kind address e)) k))))
+    seen_answered t bus kind address a l k
+    ∙ ap Ok (sym (seen_enough es xs o.listed o.rising bus l kind address 1)
+    ∙ rw (add-one left) (ap (λ x. answer (says xs bus kind address) 0 (leaves xs up bus kind address x)) (climb_onward left xs up kind address 0)))
 
 -- ---- The numbers
 
 module _ (t : List ℕ) (bus kind address : ℕ) where
   -- A refusal is answered with its number.
-  pub seen_refused : (n : ℕ) → (seen t bus kind address ≡ Refused (suc n)) ↔ (refusal (address_rules t bus kind) ≡ suc n)
+  pub seen_refused : (r : Refusal) → (seen t bus kind address ≡ Err r) ↔ (refusal (address_rules t bus kind) ≡ number_of_refusal r)
   unfolding seen
-  seen_refused n =
-      exactly seen_numbers (λ m. seen_of m (seen_by t bus kind address)) (seen_of_lem t bus kind address) (refusal (address_rules t bus kind)) (suc n)
+  seen_refused r = err_exactly (refusal (address_rules t bus kind)) _ r (known address_numbers refl (address_numbered t bus kind address).known)
 
   -- Answered: no row is so.
   pub address_none : (refusal (address_rules t bus kind) ≡ 0) ↔ (any so (address_rules t bus kind) ≡ false)

@@ -9,13 +9,12 @@ use native.Mathlib.Nat.{mod-eq_of_lt}
 use lib.ListN.{length, get_or, take, drop, length-append}
 use lib.Seq.{length-take-le, take-take, take-append-le}
 use Rattle.mps.specs.Words.{exactly, part, put}
-use Rattle.mps.specs.Answers.{parted_of}
 use Rattle.mps.specs.Layout.{header_size, base_length, extended_end, base_part, extended_part}
 use Rattle.mps.specs.Judge.{table_refusal}
 use Rattle.mps.specs.Writing.{Parts, parts_of, fields_of, parted, image, image_size, base_size, early_refusal, write_refusal, written, finished, write_left}
-use Rattle.mps.specs.declared.Lent.TheVariants.{Count}
+use Rattle.std.specs.Prelude.{Ok}
 use Rattle.mps.specs.declared.Parted.{Parted}
-use Rattle.mps.specs.declared.Parted.TheVariants.{Parts as Parted-as-Parts, Refused as Parted-as-Refused}
+use Rattle.laws.proofs.Answers.{given_ok}
 use Rattle.laws.proofs.Lists.{exactly_all}
 use Rattle.laws.proofs.Refusals.{first_none}
 use Rattle.laws.proofs.Parts.{length_part, take_part}
@@ -78,7 +77,7 @@ module _ (t : List ℕ) (b : Bytes t) (a : table_refusal t ≡ 0) where
 
   -- and the call answers so in every room that holds it.
   pub written_again : (room : List ℕ) → extended_end t ≤ length room
-      → (written (parts_of t) room ≡ Count (extended_end t)) × (write_left (parts_of t) room ≡ put (take (extended_end t) t) room)
+      → (written (parts_of t) room ≡ Ok (extended_end t)) × (write_left (parts_of t) room ≡ put (take (extended_end t) t) room)
   unfolding written write_refusal
   written_again room h =
       let s = sound t a in
@@ -90,30 +89,19 @@ module _ (t : List ℕ) (b : Bytes t) (a : table_refusal t ≡ 0) where
 
 -- ---- The same by the calls: what `parts` and `fields` answer of a table is what `write` needs to make it again
 
-is_parts : Parted → Bool
-is_parts (Parted-as-Parts base end) = true
-is_parts (Parted-as-Refused n) = false
-
-ends : Parted → List ℕ
-ends (Parted-as-Parts base end) = base ∷ end ∷ []
-ends (Parted-as-Refused n) = 0 ∷ 0 ∷ []
-
-parts_accepted : (n a b base end : ℕ) → parted_of n (Parted-as-Parts a b) ≡ Parted-as-Parts base end → (n ≡ 0) × (a ≡ base) × (b ≡ end)
-unfolding is_parts ends
-parts_accepted zero a b base end e = (refl, ap (λ (r : Parted). get_or (ends r) 0 0) e, ap (λ (r : Parted). get_or (ends r) 1 0) e)
-parts_accepted (suc n) a b base end e = absurd (true≢false (sym (ap is_parts e)))
-
-pub calls_again : (t : List ℕ) (base end : ℕ) (room : List ℕ) → Bytes t → parted t ≡ Parted-as-Parts base end → end ≤ length room
+pub calls_again : (t : List ℕ) (base end : ℕ) (room : List ℕ) → Bytes t → parted t ≡ Ok (record { base = base; end = end }) → end ≤ length room
     → let p : Parts = record { fields = fields_of (exactly header_size t); base = part header_size base t; extended = part base end t } in
-    (written p room ≡ Count end) × (write_left p room ≡ put (take end t) room)
+    (written p room ≡ Ok end) × (write_left p room ≡ put (take end t) room)
 unfolding parted parts_of
 calls_again t base end room b e h =
-    let k = parts_accepted (table_refusal t) (base_length t) (extended_end t) base end e in
-    rw (fields_inside t (sound t k.0).long, ← k.1, ← k.2) (written_again t b k.0 room (rw k.2 h))
+    let k = given_ok (table_refusal t) _ (sym e) in
+    let at_base : base_length t ≡ base = ap (λ (r : Parted). r.base) (sym k.1) in
+    let at_end : extended_end t ≡ end = ap (λ (r : Parted). r.end) (sym k.1) in
+    rw (fields_inside t (sound t k.0).long, ← at_base, ← at_end) (written_again t b k.0 room (rw at_end h))
 
 -- The answer of a table's parts, told by them.
 parted_parts : (t : List ℕ) → table_refusal t ≡ 0
-    → parted t ≡ Parted-as-Parts (base_size (parts_of t)) (image_size (parts_of t))
+    → parted t ≡ Ok (record { base = base_size (parts_of t); end = image_size (parts_of t) })
 unfolding parted parts_of
 parted_parts t a = let s = sound t a in rw (a, base_again t s, extended_again t s)
 
@@ -164,7 +152,7 @@ module _ (p : Parts) (room : List ℕ) (proper : Proper p) (a : write_refusal p 
   read_again = rw left_so (agree_parts (image p) (put (image p) room) image_sound long same ∙ image_parts)
 
   -- As the calls answer: where the entries end, and the header fields.
-  pub read_parted : parted (write_left p room) ≡ Parted-as-Parts (base_size p) (image_size p)
+  pub read_parted : parted (write_left p room) ≡ Ok (record { base = base_size p; end = image_size p })
   read_parted = rw (parted_parts (write_left p room) read_accepted, read_again)
 
   pub read_fields : fields_of (exactly header_size (write_left p room)) ≡ p.fields

@@ -1,4 +1,5 @@
 -- Demand 3: "An entry changed and changed back counts as unchanged." Assumes nothing.
+use Rattle.std.specs.Prelude.{Ok, Err}
 use Prim.Native.Nat.{ℕ, ◌+◌}
 use mathlib.Core.Path.{◌≡◌, sym, ap, ◌∙◌}
 use mathlib.Core.Logic.{◌↔◌}
@@ -10,7 +11,8 @@ use Rattle.mps.specs.Layout.{extended_end, base_entries}
 use Rattle.mps.specs.Writing.{parts_of, image}
 use Rattle.mps.specs.Judge.{table_refusal}
 use Rattle.mps.specs.Edits.{Edit, standing, offset_of, edited_table, edited, edit_left, run}
-use Rattle.mps.specs.declared.Edited.TheVariants.{Done, Refused}
+use Rattle.mps.specs.declared.refusals.Refusal.TheVariants.{Changed}
+use Rattle.mps.specs.declared.refusals.EditRefusal.TheVariants.{Refused}
 use Rattle.laws.proofs.Small.{Bytes, Small, small_none, small_more, bytes_part}
 use Rattle.accepted.proofs.Sound.{sound}
 use Rattle.accepted.proofs.Stands.{stands}
@@ -29,7 +31,7 @@ same_table t u k g h e =
     let front : take (extended_end t) u ≡ take (extended_end t) t = rw k.end at (sym i) ∙ ap image p ∙ j in
     sym (take-append-drop (extended_end t) u) ∙ rw (front, k.behind) (take-append-drop (extended_end t) t)
 
-seen_bytes : (t : List ℕ) (e : Edit) → edited t e ≡ Done → Bytes t → Bytes e.stated
+seen_bytes : (t : List ℕ) (e : Edit) → edited t e ≡ Ok tt → Bytes t → Bytes e.stated
 seen_bytes t e d b =
     let a = done_accepted t e d in
     let s = stands t e.place (sound t a.table) a.shaped.place in
@@ -42,8 +44,8 @@ pub run_back : (t : List ℕ) (es : List Edit) → Good t → Small (wanted_of e
 run_back t es g s e = same_table t (run t es) (run_kept t es) g (run_good t es g s) e
 
 -- One edit, and one that puts the first bytes back.
-module _ (t : List ℕ) (e f : Edit) (b : Bytes t) (w : Bytes e.wanted) (d : edited t e ≡ Done)
-    (g : edited (edit_left t e) f ≡ Done) (p : f.place ≡ e.place) (q : f.wanted ≡ e.stated) where
+module _ (t : List ℕ) (e f : Edit) (b : Bytes t) (w : Bytes e.wanted) (d : edited t e ≡ Ok tt)
+    (g : edited (edit_left t e) f ≡ Ok tt) (p : f.place ≡ e.place) (q : f.wanted ≡ e.stated) where
   pub changed_back : run t (e ∷ f ∷ []) ≡ t
   unfolding run standing each
   changed_back =
@@ -60,7 +62,7 @@ module _ (t : List ℕ) (e f : Edit) (b : Bytes t) (w : Bytes e.wanted) (d : edi
   back_answered later = ap (λ (s : List ℕ). edited s later) changed_back
 
   -- and one that states the first bytes is accepted as the first one was.
-  pub back_accepted : edited (run t (e ∷ f ∷ [])) e ≡ Done
+  pub back_accepted : edited (run t (e ∷ f ∷ [])) e ≡ Ok tt
   back_accepted = back_answered e ∙ d
 
 -- After any run, where an entry stands as it stood at first, an edit of the right shape that states the first bytes is not refused
@@ -75,10 +77,10 @@ module _ (t : List ℕ) (es : List Edit) (e : Edit) (g : Good t) (small : Small 
     kind = rw s h.kind;
   }
 
-  pub stands_exactly : (edited (run t es) e ≡ Refused 22) ↔ (e.stated ≡ standing t e.place → ⊥)
+  pub stands_exactly : (edited (run t es) e ≡ Err (Refused Changed)) ↔ (e.stated ≡ standing t e.place → ⊥)
   stands_exactly =
       let now = changed_exactly (run t es) e (run_good t es g small).table shape_again in
       (λ r. rw s at (now.0 r), λ o. now.1 (rw s o))
 
-  pub stands_accepted : e.stated ≡ standing t e.place → table_refusal (edited_table (run t es) e) ≡ 0 → edited (run t es) e ≡ Done
+  pub stands_accepted : e.stated ≡ standing t e.place → table_refusal (edited_table (run t es) e) ≡ 0 → edited (run t es) e ≡ Ok tt
   stands_accepted p a = accepted_done (run t es) e (run_good t es g small).table shape_again (rw s p) a

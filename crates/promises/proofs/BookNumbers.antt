@@ -11,22 +11,24 @@ use lib.Dec.{eqb}
 use borrow.Author.Tests.{eqb-true, eqb-false}
 use Rattle.mps.specs.Words.{among, any, each, first, put}
 use Rattle.mps.specs.Refusals.{◌when◌, refusal}
-use Rattle.mps.specs.Answers.{number_of, lent_numbers, lent_of, booked_numbers, booked_of, latest_numbers, latest_of, body_numbers, body_of}
+use Rattle.std.specs.Prelude.{Result, Ok}
+use Rattle.mps.specs.Answers.{number_of, answered, lent_numbers, booked_numbers, latest_numbers, body_numbers}
+use Rattle.mps.specs.declared.refusals.Refusal.{Refusal}
 use Rattle.mps.specs.Rooms.{too_small, room_rules, lent_refusal}
 use Rattle.mps.specs.Judge.{table_rules}
 use Rattle.mps.specs.Book.{BookLayout, latest, body_rules, body_refusal, bodies_at, book_of, rows_of, good_book, bad_book}
 use Rattle.mps.specs.History.{book_rules, book_refusal, booked, latest_told, holds_edition, edition_body, edition_start, edition_rules, edition_refusal, body_told}
 use Rattle.mps.specs.History.{history_of, history_refusal, history_told, history_left}
 use Rattle.mps.specs.Saving.{Addition, grown_book, not_latest, book_full, addition_rules, grown, Ask, save, restore, addition, ask_rules, add_refusal, added, add_left}
-use Rattle.mps.specs.declared.Lent.TheVariants.{Count}
 use Rattle.mps.specs.declared.Booked.{Booked}
 use Rattle.laws.proofs.Tests.{whether, or_parts}
 use Rattle.laws.proofs.Refusals.{first_none, refusal_append, refusal_absent, given_exactly, given_before}
-use Rattle.laws.proofs.Lent.{lent_19, lent_of_lem, lent_kept, lent_shown, left_kept}
+use Rattle.laws.proofs.Answers.{Known, known_rows, answered_number}
+use Rattle.laws.proofs.Lent.{lent_19, lent_kept, lent_shown, left_kept}
 use Rattle.pages.proofs.Answered.{book_answered, edition_answered, add_first}
 use Rattle.promises.specs.Numbered.{OneOf, table_numbers, book_numbers, edition_numbers, history_numbers, save_numbers, restore_numbers}
 use Rattle.promises.proofs.Given.{Exactly}
-use Rattle.promises.proofs.Answered.{booked_of_lem, latest_of_lem, body_of_lem}
+use Rattle.promises.proofs.Answered.{known}
 use Rattle.promises.proofs.Numbered.{refusal_among, one_of}
 
 -- ---- "ends with an answer or a numbered refusal"
@@ -45,52 +47,59 @@ module _ (l : BookLayout) (s : List ℕ) where
   unfolding book_refusal book_rules each
   book_among = refusal_among (book_rules l s)
 
-  pub book_number : number_of (booked_numbers (booked l s)) ≡ book_refusal l s
-  unfolding booked
-  book_number = booked_of_lem _ _ (book_refusal l s)
-
-  pub book_numbered : OneOf (λ n. booked_of n (length (rows_of l s)) (length (book_of l (rows_of l s)))) (book_refusal l s) book_numbers (booked l s)
+  pub book_numbered : OneOf (λ n. answered n (record { rows = length (rows_of l s); size = length (book_of l (rows_of l s)) })) (book_refusal l s) book_numbers (booked l s)
   unfolding booked
   book_numbered = one_of (book_refusal l s) refl book_among
 
-  module _ (machine : ℕ) where
-    pub latest_number : number_of (latest_numbers (latest_told l s machine)) ≡ book_refusal l s
-    unfolding latest_told
-    latest_number = latest_of_lem _ (book_refusal l s)
+  pub book_number : number_of (booked_numbers (booked l s)) ≡ book_refusal l s
+  unfolding booked
+  book_number = answered_number _ (book_refusal l s) _ (known book_numbers refl book_numbered.known)
 
-    pub latest_numbered : OneOf (λ n. latest_of n (latest machine (rows_of l s))) (book_refusal l s) book_numbers (latest_told l s machine)
+  module _ (machine : ℕ) where
+    pub latest_numbered : OneOf (λ n. answered n (latest machine (rows_of l s))) (book_refusal l s) book_numbers (latest_told l s machine)
     unfolding latest_told
     latest_numbered = one_of (book_refusal l s) refl book_among
 
-  module _ (machine edition : ℕ) where
-    pub body_number : number_of (body_numbers (body_told l s machine edition)) ≡ edition_refusal l s machine edition
-    unfolding body_told
-    body_number = body_of_lem _ _ (edition_refusal l s machine edition)
+    pub latest_number : number_of (latest_numbers (latest_told l s machine)) ≡ book_refusal l s
+    unfolding latest_told
+    latest_number = answered_number _ (book_refusal l s) _ (known book_numbers refl latest_numbered.known)
 
+  module _ (machine edition : ℕ) where
     pub body_numbered :
-        OneOf (λ n. body_of n (length (edition_body machine edition (rows_of l s)))
-        (edition_start machine edition (bodies_at l.width (length (rows_of l s))) (rows_of l s)))
+        OneOf (λ n. answered n (record {
+          size = length (edition_body machine edition (rows_of l s));
+          start = edition_start machine edition (bodies_at l.width (length (rows_of l s))) (rows_of l s);
+        }))
         (edition_refusal l s machine edition) edition_numbers (body_told l s machine edition)
     unfolding body_told edition_refusal edition_rules each
     body_numbered = one_of (edition_refusal l s machine edition) refl (refusal_among (edition_rules l s machine edition))
 
-  module _ (room : List ℕ) where
-    pub history_number : number_of (lent_numbers (history_told l s room)) ≡ history_refusal l s room
-    unfolding history_told
-    history_number = lent_of_lem (history_refusal l s room) _
+    pub body_number : number_of (body_numbers (body_told l s machine edition)) ≡ edition_refusal l s machine edition
+    unfolding body_told
+    body_number = answered_number _ (edition_refusal l s machine edition) _ (known edition_numbers refl body_numbered.known)
 
-    pub history_numbered : OneOf (λ n. lent_of n (length (rows_of l s))) (history_refusal l s room) history_numbers (history_told l s room)
+  module _ (room : List ℕ) where
+    pub history_numbered : OneOf (λ n. answered n (length (rows_of l s))) (history_refusal l s room) history_numbers (history_told l s room)
     unfolding history_told history_refusal lent_refusal room_rules book_rules each
     history_numbered = one_of (history_refusal l s room) refl (refusal_among (room_rules (book_rules l s) (too_small (length (history_of l s)) room)))
+
+    pub history_number : number_of (lent_numbers (history_told l s room)) ≡ history_refusal l s room
+    unfolding history_told
+    history_number = answered_number _ (history_refusal l s room) _ (known history_numbers refl history_numbered.known)
+
+  add_known : (ask : Ask) → Known (add_refusal l s ask)
+  unfolding add_refusal ask_rules addition_rules book_rules body_rules edition_rules table_rules any
+  add_known (save machine began body) = known_rows _ refl
+  add_known (restore machine old now) = known_rows _ refl
 
   module _ (ask : Ask) where
     pub add_number : number_of (booked_numbers (added l s ask)) ≡ add_refusal l s ask
     unfolding added grown
-    add_number = booked_of_lem _ _ (add_refusal l s ask)
+    add_number = answered_number _ (add_refusal l s ask) _ (add_known ask)
 
   -- What an accepted addition answers: the rows and the bytes of the book then.
-  abbrev answer_of : Addition → ℕ → Booked
-  answer_of a n = booked_of n (length (rows_of l s) + 1) (length (grown_book l s a))
+  abbrev answer_of : Addition → ℕ → Result Booked Refusal
+  answer_of a n = answered n (record { rows = length (rows_of l s) + 1; size = length (grown_book l s a) })
 
   pub save_numbered : (machine began : ℕ) (body : List ℕ)
       → let ask = save machine began body in
@@ -115,7 +124,7 @@ module _ (l : BookLayout) (s : List ℕ) where
   unfolding history_told history_left
   history_kept room = lent_kept (history_refusal l s room) _ (history_of l s) room
 
-  pub history_shown : (room : List ℕ) {n : ℕ} → history_told l s room ≡ Count n
+  pub history_shown : (room : List ℕ) {n : ℕ} → history_told l s room ≡ Ok n
       → (n ≡ length (rows_of l s)) × (history_left l s room ≡ put (history_of l s) room)
   unfolding history_told history_left
   history_shown room = lent_shown (history_refusal l s room) _ (history_of l s) room

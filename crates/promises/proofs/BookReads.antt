@@ -11,7 +11,7 @@ use lib.Dec.{ltb, eqb}
 use borrow.Author.Tests.{ltb-false, le-ltb, eqb-true}
 use Rattle.mps.specs.Words.{part}
 use Rattle.mps.specs.Layout.{edition_most, book_row, extended_end, base_entries}
-use Rattle.mps.specs.Answers.{body_of}
+use Rattle.mps.specs.Answers.{answered}
 use Rattle.mps.specs.Rooms.{too_small}
 use Rattle.mps.specs.Judge.{table_refusal}
 use Rattle.mps.specs.Book.{BookLayout, latest, body_refusal, good_body, bodies_at, book_of, rows_of, good_book}
@@ -19,10 +19,10 @@ use Rattle.mps.specs.History.{holds_edition, edition_body, edition_start, editio
 use Rattle.mps.specs.Edits.{Edit, run}
 use Rattle.mps.specs.Writing.{written, write_left}
 use Rattle.mps.specs.Saving.{Addition, new_row, grown_book, book_full, restore, save, addition, add_refusal, added, add_left}
-use Rattle.mps.specs.declared.Edited.{Edited}
-use Rattle.mps.specs.declared.Lent.TheVariants.{Count}
+use Rattle.mps.specs.declared.refusals.EditRefusal.{EditRefusal}
+use Rattle.std.specs.Prelude.{Result, Ok}
 use Rattle.mps.specs.declared.Body.{Body}
-use Rattle.mps.specs.declared.Body.TheVariants.{Stands, Refused}
+use Rattle.laws.proofs.Answers.{given_ok}
 use Rattle.laws.proofs.Tests.{whether}
 use Rattle.laws.proofs.Refusals.{first_none}
 use Rattle.laws.proofs.Small.{Bytes, Small, bytes_part}
@@ -38,21 +38,11 @@ use Rattle.promises.proofs.Runs.{Calls, Good, calls_run, calls_fresh, run_good, 
 -- ---- A body that is handed out
 
 -- What is answered with a place is of a good book that holds the edition.
-stands_given : (n size start : ℕ) {a b : ℕ} → body_of n size start ≡ Stands a b → (n ≡ 0) × (a ≡ size) × (b ≡ start)
-stands_given zero size start e = (refl, sym (ap sizeIn e), sym (ap start_in e))
-  where
-    sizeIn : Body → ℕ
-    sizeIn (Stands x y) = x
-    sizeIn (Refused n) = 0
-
-    start_in : Body → ℕ
-    start_in (Stands x y) = y
-    start_in (Refused n) = 0
-stands_given (suc n) size start e = absurd (omega (arith, ap cases e))
-  where
-    cases : Body → ℕ
-    cases (Stands x y) = 0
-    cases (Refused n) = 1
+stands_given : (n size start : ℕ) {a b : ℕ} → answered n (record { size = size; start = start }) ≡ Ok (record { size = a; start = b })
+    → (n ≡ 0) × (a ≡ size) × (b ≡ start)
+stands_given n size start e =
+    let g = given_ok n _ (sym e) in
+    (g.0, ap (λ (x : Body). x.size) g.1, ap (λ (x : Body). x.start) g.1)
 
 -- A good body ends where its table does.
 good_alone : (t : List ℕ) → good_body t ≡ true → length t ≤ extended_end t
@@ -69,7 +59,7 @@ alone_good : (t : List ℕ) → table_refusal t ≡ 0 → length t ≤ extended_
 alone_good t a h = body_own t ∙ rw (a, le-ltb (extended_end t) (length t) h)
 
 module _ (l : BookLayout) (reads : Readable l) (s : List ℕ) (b : Bytes s) (machine edition : ℕ) {size start : ℕ}
-    (told : body_told l s machine edition ≡ Stands size start) where
+    (told : body_told l s machine edition ≡ Ok (record { size = size; start = start })) where
   given : (edition_refusal l s machine edition ≡ 0) × (size ≡ length (edition_body machine edition (rows_of l s)))
       × (start ≡ edition_start machine edition (bodies_at l.width (length (rows_of l s))) (rows_of l s))
   unfolding body_told
@@ -105,15 +95,15 @@ module _ (l : BookLayout) (reads : Readable l) (s : List ℕ) (b : Bytes s) (mac
 
   -- "Demand 3's run of edits is per edition": edits made to a copy of it, in turn, leave what the writer makes afresh of its
   -- parts with the accepted ones put in, in order.
-  pub edition_run : (es : List Edit) (rs : List Edited) (v : List ℕ)
+  pub edition_run : (es : List Edit) (rs : List (Result (Unit {0}) EditRefusal)) (v : List ℕ)
       → let t = part start (start + size) s in
       Calls t es rs v → Small (wanted_of es)
       → let p = parts_with t (put_in (base_entries t) (accepted es rs)) in
-      (written p t ≡ Count (extended_end t)) × (write_left p t ≡ v)
+      (written p t ≡ Ok (extended_end t)) × (write_left p t ≡ v)
   edition_run es rs v c small = calls_fresh (part start (start + size) s) v es rs c copy small
 
   -- What they leave is a good body again: a save of it can be refused with 27, 28 or 29 alone (save-body).
-  pub edition_good : (es : List Edit) (rs : List Edited) (v : List ℕ)
+  pub edition_good : (es : List Edit) (rs : List (Result (Unit {0}) EditRefusal)) (v : List ℕ)
       → Calls (part start (start + size) s) es rs v → Small (wanted_of es) → body_refusal v ≡ 0
   edition_good es rs v c small =
       let t = part start (start + size) s in

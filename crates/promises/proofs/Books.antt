@@ -12,12 +12,13 @@ use borrow.Author.Tests.{lt-ltb, le-leb, lt-leb, leb-true, eq-eqb, ne_eqb, eqb-t
 use Rattle.mps.specs.Words.{any, each, put, joined}
 use Rattle.mps.specs.Numbers.{bytes}
 use Rattle.mps.specs.Layout.{edition_most, book_row, body_start, body_size}
-use Rattle.mps.specs.Answers.{booked_of}
+use Rattle.std.specs.Prelude.{Result, Ok}
+use Rattle.mps.specs.Answers.{answered}
+use Rattle.mps.specs.declared.refusals.Refusal.{Refusal}
 use Rattle.mps.specs.Book.{Row, BookLayout, body_in, latest, body_refusal, good_body, bodies_at, rows_from, book_of, rows_of, good_book}
 use Rattle.mps.specs.History.{is_edition, holds_edition, edition_body}
 use Rattle.mps.specs.Saving.{Addition, new_row, grown_book, book_full, grown, Ask, save, restore, addition, add_refusal, added, add_left, add_run, add_answers}
 use Rattle.mps.specs.declared.Booked.{Booked}
-use Rattle.mps.specs.declared.Booked.TheVariants.{Book}
 use Rattle.laws.proofs.Tests.{whether, and_parts, or_parts}
 use Rattle.laws.proofs.Lists.{keep_in, keep_out}
 use Rattle.laws.proofs.Small.{Bytes, bytes_take, bytes_drop, bytes_part, bytes_none, bytes_cons, bytes_append}
@@ -180,7 +181,8 @@ module _ (l : BookLayout) (reads : Readable l) (s : List ℕ) (b : Bytes s) (ask
   add_bytes = rw add_leaves (grown_bytes l reads s b (addition l s ask) taken_so)
 
   -- The answer: the rows and the bytes of the book then.
-  pub add_answer : added l s ask ≡ Book (length (rows_of l s) + 1) (length (book_of l (rows_of l s)) + book_row l.width + length (addition l s ask).body)
+  pub add_answer : added l s ask
+      ≡ Ok (record { rows = length (rows_of l s) + 1; size = length (book_of l (rows_of l s)) + book_row l.width + length (addition l s ask).body })
   unfolding added grown grown_book new_row
   add_answer = rw (none, length_grown l (rows_of l s) (new_row (addition l s ask)))
 
@@ -238,12 +240,12 @@ bad_refused l s (save machine began body) f e = false≢true (sym f ∙ ((save_t
 bad_refused l s (restore machine old now) f e = false≢true (sym f ∙ ((restore_taken l s machine old now).0 e).0)
 
 -- One that was not answered with a book is passed over.
-taken_none : (l : BookLayout) (s : List ℕ) (ask : Ask) (asks : List Ask) (answers : List Booked) → (add_refusal l s ask ≡ 0 → ⊥)
+taken_none : (l : BookLayout) (s : List ℕ) (ask : Ask) (asks : List Ask) (answers : List (Result Booked Refusal)) → (add_refusal l s ask ≡ 0 → ⊥)
     → taken (ask ∷ asks) (added l s ask ∷ answers) ≡ taken asks answers
 unfolding added grown taken
 taken_none l s ask asks answers n = cases (add_refusal l s ask) n
   where
-    cases : (k : ℕ) → (k ≡ 0 → ⊥) → taken (ask ∷ asks) (booked_of k (length (rows_of l s) + 1) (length (grown_book l s (addition l s ask))) ∷ answers) ≡ taken asks answers
+    cases : (k : ℕ) → (k ≡ 0 → ⊥) → taken (ask ∷ asks) (answered k (record { rows = length (rows_of l s) + 1; size = length (grown_book l s (addition l s ask)) }) ∷ answers) ≡ taken asks answers
     cases zero h = absurd (h refl)
     cases (suc k) h = refl
 

@@ -25,12 +25,13 @@ use Rattle.mps.specs.Writing.{parts_of, written, write_left}
 use Rattle.mps.specs.Defaults.{Line, table5_2, table5_3, cell, configuration, processor_entry, io_apic_entry, interrupt_entry, wired, inputs, default_io_apic}
 use Rattle.mps.specs.Defaults.{default_entries, default_parts, default_table, no_default, make_refusal, made, make_left}
 use Rattle.mps.specs.Defaults.Line.{INTR, IRQ, NMI, NC}
-use Rattle.mps.specs.declared.Lent.TheVariants.{Count}
+use Rattle.std.specs.Prelude.{Ok}
 use Rattle.mps.specs.declared.Seen.TheVariants.{Undeclared}
 use Rattle.laws.proofs.Tests.{whether, and_parts, or_parts}
 use Rattle.laws.proofs.Lists.{keep_in, keep_out, keep_keep}
 use Rattle.laws.proofs.Refusals.{refusal_append, given_exactly}
-use Rattle.laws.proofs.Lent.{lent_19, lent_kept, lent_shown, count_given, fits}
+use Rattle.laws.proofs.Lent.{lent_19, lent_kept, lent_shown, fits}
+use Rattle.laws.proofs.Answers.{given_ok}
 use Rattle.accepted.proofs.Sound.{Sound, sound}
 use Rattle.accepted.proofs.Agree.{agree_refusal, agree_entries, agree_extended_entries, agree_parts}
 use Rattle.board.proofs.Defaults.{defaults_lengths, defaults_entries, defaults_parts, defaults_extended, defaults_inputs, defaults_local_inputs, defaults_io_targets, defaults_local_targets}
@@ -199,7 +200,7 @@ module _ (n boot : ℕ) (room : List ℕ) where
   make_kept = lent_kept (make_refusal n boot room) _ (default_table n boot) room
 
   -- and a table that is made stands at its first byte; what lies past it stays.
-  pub make_shown : {k : ℕ} → made n boot room ≡ Count k → (k ≡ length (default_table n boot)) × (make_left n boot room ≡ put (default_table n boot) room)
+  pub make_shown : {k : ℕ} → made n boot room ≡ Ok k → (k ≡ length (default_table n boot)) × (make_left n boot room ≡ put (default_table n boot) room)
   unfolding made make_left
   make_shown = lent_shown (make_refusal n boot room) _ (default_table n boot) room
 
@@ -209,7 +210,7 @@ module _ (n boot : ℕ) (room : List ℕ) where
     made_by_writer = let w = written_made (there_is n boot d) room in (sym w.0, sym w.1)
 
     -- In a room that holds it, it is made;
-    pub make_enough : length (default_table n boot) ≤ length room → made n boot room ≡ Count (length (default_table n boot))
+    pub make_enough : length (default_table n boot) ≤ length room → made n boot room ≡ Ok (length (default_table n boot))
     unfolding fitted
     make_enough h = sym (make_fits (there_is n boot d) room).0 ∙ rw (fits (default_table n boot) room h)
 
@@ -219,10 +220,10 @@ default_most_lem n boot d = there_most (there_is n boot d)
 
 -- What stands in the room is "accepted .. and queried like any other", whatever lies past it: it has those entries and parts, and
 -- with them those routes.
-module _ (n boot : ℕ) (room : List ℕ) {k : ℕ} (e : made n boot room ≡ Count k) where
+module _ (n boot : ℕ) (room : List ℕ) {k : ℕ} (e : made n boot room ≡ Ok k) where
   there_made : no_default n boot ≡ false
   unfolding made
-  there_made = there_none (made_there n boot room (count_given (make_refusal n boot room) (length (default_table n boot)) (sym e)).0)
+  there_made = there_none (made_there n boot room (given_ok (make_refusal n boot room) (length (default_table n boot)) (sym e)).0)
 
   table : List ℕ
   table = default_table n boot

@@ -11,8 +11,7 @@ use Rattle.mps.specs.Layout.{checksum_at, entry_count, extended_end, extended_pa
 use Rattle.mps.specs.Judge.{table_refusal}
 use Rattle.mps.specs.Writing.{fields_of, parts_of, written, write_left}
 use Rattle.mps.specs.Edits.{Edit, standing, offset_of, edited_table, edited, edit_left}
-use Rattle.mps.specs.declared.Lent.TheVariants.{Count}
-use Rattle.mps.specs.declared.Edited.TheVariants.{Done}
+use Rattle.std.specs.Prelude.{Ok}
 use Rattle.laws.proofs.Small.{Bytes}
 use Rattle.accepted.proofs.Sound.{sound}
 use Rattle.accepted.proofs.Pieces.{joined_cut, base_told}
@@ -58,18 +57,18 @@ module _ (t u : List ℕ) (k : Kept t u) (b : Bytes u) (a : table_refusal u ≡ 
 
   pub kept_fresh :
       let p = parts_with t (base_entries u) in
-      (written p t ≡ Count (extended_end t)) × (write_left p t ≡ u)
+      (written p t ≡ Ok (extended_end t)) × (write_left p t ≡ u)
   kept_fresh =
       let inside : extended_end t ≤ length u = rw k.end at (sound u a).extended_inside in
       let w = written_again u b a t (rw (k.end, ← k.size) inside) in
       let l = length-take-le (extended_end t) u inside in (
-        rw (← kept_parts t u k) (w.0 ∙ ap Count k.end),
+        rw (← kept_parts t u k) (w.0 ∙ ap Ok k.end),
         rw (← kept_parts t u k) (w.1 ∙ rw (k.end, l) whole_again),
       )
 
 -- ---- One edit
 
-module _ (t : List ℕ) (e : Edit) (d : edited t e ≡ Done) where
+module _ (t : List ℕ) (e : Edit) (d : edited t e ≡ Ok tt) where
   told : Accepted t e
   told = done_accepted t e d
 
@@ -104,7 +103,7 @@ module _ (t : List ℕ) (e : Edit) (d : edited t e ≡ Done) where
   -- entries": written over the table itself, they leave the same.
   pub edited_fresh : Bytes t → Bytes e.wanted
       → let p = parts_with t (set (base_entries t) e.place e.wanted) in
-      (written p t ≡ Count (extended_end t)) × (write_left p t ≡ edit_left t e)
+      (written p t ≡ Ok (extended_end t)) × (write_left p t ≡ edit_left t e)
   edited_fresh b w = rw edited_entries at (kept_fresh t (edit_left t e) edited_kept (edited_bytes b w) edited_accepted)
 
   -- ".. and alters no byte outside that entry and the base checksum."

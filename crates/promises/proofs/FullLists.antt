@@ -19,7 +19,7 @@ use Rattle.mps.specs.Pointer.{pointer, is_default, imcr_of, table_in}
 use Rattle.mps.specs.Judge.{table_rules, pointer_rules, dump_rules, dump_refusal, told, held}
 use Rattle.mps.specs.Listing.{pointer_line, table_line, base_line, end_line, table_lines, listed, list_left}
 use Rattle.mps.specs.Defaults.{default_entries, default_table, no_default, made, make_left, default_of, full_listing, wrong_boot, full_rules, full_refusal, full_listed, full_left}
-use Rattle.mps.specs.declared.Lent.TheVariants.{Count}
+use Rattle.std.specs.Prelude.{Ok}
 use Rattle.laws.proofs.Tests.{whether, and_parts, or_parts}
 use Rattle.laws.proofs.Lists.{any_append}
 use Rattle.laws.proofs.Refusals.{number, so, refusal_none, given_before, given_exactly, absent_only}
@@ -149,7 +149,7 @@ module _ (d : List ℕ) (boot : ℕ) where
     full_kept = lent_kept (full_refusal d boot room) _ (full_listing d boot) room
 
     -- and a listing stands at its first byte; what lies past it stays.
-    pub full_shown : {k : ℕ} → full_listed d boot room ≡ Count k → (k ≡ length (full_listing d boot)) × (full_left d boot room ≡ put (full_listing d boot) room)
+    pub full_shown : {k : ℕ} → full_listed d boot room ≡ Ok k → (k ≡ length (full_listing d boot)) × (full_left d boot room ≡ put (full_listing d boot) room)
     unfolding full_listed full_left
     full_shown = lent_shown (full_refusal d boot room) _ (full_listing d boot) room
 
@@ -166,7 +166,7 @@ module _ (d : List ℕ) (boot : ℕ) (t : is_default d ≡ true) where
 
   -- "the pointer line stands as ever and the table's address is written 00000000": behind the pointer's line come those of the
   -- table that the call makes for that boot processor, at address 0.
-  pub full_lists_made : (room : List ℕ) {k : ℕ} → made meant boot room ≡ Count k
+  pub full_lists_made : (room : List ℕ) {k : ℕ} → made meant boot room ≡ Ok k
       → full_listing d boot ≡ pointer_line (pointer d).address (imcr_of d) ++ table_lines 0 (take k (make_left meant boot room))
   unfolding full_listing
   full_lists_made room {k} e =

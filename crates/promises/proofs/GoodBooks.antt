@@ -21,7 +21,7 @@ use Rattle.mps.specs.Book.{rows_from, book_of, row_at, rows_at, rows_of, good_bo
 use Rattle.mps.specs.History.{book_rules, book_refusal, booked, latest_told, holds_edition, edition_rules, edition_refusal, body_told}
 use Rattle.mps.specs.History.{history_width, history_of, history_refusal, history_told, history_left}
 use Rattle.mps.specs.Saving.{grown_book, not_latest, book_full, addition_rules, grown, Ask, save, restore, addition, ask_rules, add_refusal, added}
-use Rattle.mps.specs.declared.Lent.TheVariants.{Count}
+use Rattle.std.specs.Prelude.{Ok}
 use Rattle.laws.proofs.Tests.{whether, and_parts}
 use Rattle.laws.proofs.Small.{Bytes}
 use Rattle.numbers.proofs.Laws.{le_below}
@@ -347,7 +347,7 @@ module _ (w limit : ℕ) (s : List ℕ) (b : Bytes s) (reach : limit < 256 ^ his
 
 -- "the book's rows are the history": of a history that is given, the twelve bytes at 12 * k have the numbers of the book's row k.
 pub history_rows : (l : BookLayout) → Readable l → l.most < 256 ^ history_width → (s : List ℕ) → Bytes s
-    → (room : List ℕ) {n : ℕ} → history_told l s room ≡ Count n
+    → (room : List ℕ) {n : ℕ} → history_told l s room ≡ Ok n
     → (k : ℕ) → k < n → RowTold l.width s (row_place l k) (history_left l s room) (12 * k)
 unfolding rows_of history_of bad_book
 history_rows l reads reach s b room {n} e k below =

@@ -1,5 +1,6 @@
 -- Document 02, ask 2: "an ID shared with an enabled processor is no longer a fault; two enabled I/O APICs with one ID still are."
 -- When 16 is given, by the entries at places of the table, and that processors have no part in it. Assumes nothing.
+use Rattle.std.specs.Prelude.{Ok, Err}
 use Prim.Native.Nat.{ℕ, zero, suc, ◌<◌}
 use mathlib.Core.Path.{◌≡◌, sym, ◌∙◌}
 use mathlib.Core.Bool.{Bool, true, false, ◌||◌, ◌&&◌, true≢false, or-true}
@@ -15,8 +16,8 @@ use Rattle.mps.specs.Rules.{enabled_of, enabled_ids, misplaced, wrong_io_apics}
 use Rattle.mps.specs.Judge.{table_rules, judged}
 use Rattle.mps.specs.Refusals.{inner_number}
 use Rattle.mps.specs.Edits.{Edit, edited_table, inner_refusal, edit_refusal, edited}
-use Rattle.mps.specs.declared.Judged.TheVariants.{Refused}
-use Rattle.mps.specs.declared.Edited.TheVariants.{Inner}
+use Rattle.mps.specs.declared.refusals.Refusal.TheVariants.{IoApics}
+use Rattle.mps.specs.declared.refusals.EditRefusal.TheVariants.{Inner}
 use Rattle.laws.proofs.Tests.{whether, either, and_parts}
 use Rattle.laws.proofs.Lists.{any_none, any_keep, keep_keep, keep_in, keep_out, among_each}
 use Rattle.laws.proofs.Refusals.{so}
@@ -157,10 +158,10 @@ module _ (es : List Entry) where
 -- The judge refuses with 16 exactly when no row before is so, and an enabled I/O APIC is wrong by itself or two have one ID.
 pub refused_16 :
     (t : List ℕ)
-    → (judged t ≡ Refused 16)
+    → (judged t ≡ Err IoApics)
     ↔ ((any so (take 11 (table_rules t)) ≡ false) × (WrongAlone (base_entries t) ⊎ TwoOfOneId (base_entries t)))
 refused_16 t =
-    let answer = refused_exactly t 16 (omega arith) in
+    let answer = refused_exactly t IoApics in
     let given = given_16 t in
     let row = wrong_16 (base_entries t) in (
       λ e. let g = given.0 (answer.0 e) in (g.0, row.0 g.1),
@@ -171,13 +172,13 @@ refused_16 t =
 -- I/O APICs are wrong so.
 pub inner_16 :
     (t : List ℕ) (e : Edit)
-    → (edited t e ≡ Inner 16)
+    → (edited t e ≡ Err (Inner IoApics))
     ↔ ((edit_refusal t e ≡ inner_number)
     × (any so (take 11 (table_rules (edited_table t e))) ≡ false)
     × (WrongAlone (base_entries (edited_table t e)) ⊎ TwoOfOneId (base_entries (edited_table t e))))
 unfolding inner_refusal
 inner_16 t e =
-    let answer = inner_exactly t e 16 in
+    let answer = inner_exactly t e IoApics in
     let given = given_16 (edited_table t e) in
     let row = wrong_16 (base_entries (edited_table t e)) in (
       λ d. let k = answer.0 d in let g = given.0 k.1 in (k.0, g.0, row.0 g.1),

@@ -12,30 +12,34 @@ use lib.Dec.{ltb, eqb}
 use borrow.Author.Tests.{eq-eqb, ne_eqb, eqb-true}
 use Rattle.mps.specs.Words.{among, any, each, first}
 use Rattle.mps.specs.Refusals.{Rule, ◌when◌, refusal, type_number, cut_number, order_number}
-use Rattle.mps.specs.Answers.{judged_numbers, judged_of}
+use Rattle.std.specs.Prelude.{Ok, Err}
+use Rattle.mps.specs.Reasons.{number_of_refusal}
 use Rattle.mps.specs.Layout.{Entry, type, last_base_type, base_entry_length, entry_count, base_entries}
 use Rattle.mps.specs.Table.{entry_fault, walk_from, walk_fault, wrong_type, cut_or_miscounted, descending_type}
 use Rattle.mps.specs.Judge.{table_rules, table_refusal, judged}
-use Rattle.mps.specs.declared.Judged.TheVariants.{Accepted, Refused}
+use Rattle.mps.specs.declared.refusals.Refusal.{Refusal}
+use Rattle.mps.specs.declared.refusals.Refusal.TheVariants.{EntryType, EntryCut, EntryOrder}
 use Rattle.laws.proofs.Tests.{either, and_parts}
 use Rattle.laws.proofs.Refusals.{so, given_exactly, first_some, first_none}
-use Rattle.promises.proofs.Answered.{exactly, judged_of_lem}
+use Rattle.promises.specs.Numbered.{table_numbers}
+use Rattle.promises.proofs.Answered.{known}
+use Rattle.promises.proofs.Numbered.{refusal_numbered as refusal_numbered_lem}
+use Rattle.laws.proofs.Answers.{ok_exactly, err_exactly}
 use Rattle.promises.proofs.Given.{Exactly, given_none, given_10, given_11, given_12}
 
 -- ---- The answer and the number
 
 -- Refused with a number exactly when it is the table's,
-pub refused_exactly : (t : List ℕ) (n : ℕ) → 0 < n → (judged t ≡ Refused n) ↔ (table_refusal t ≡ n)
+pub refused_exactly : (t : List ℕ) (r : Refusal) → (judged t ≡ Err r) ↔ (table_refusal t ≡ number_of_refusal r)
 unfolding judged
-refused_exactly t zero p = absurd (omega (arith, p))
-refused_exactly t (suc n) p = exactly judged_numbers judged_of judged_of_lem (table_refusal t) (suc n)
+refused_exactly t r = err_exactly (table_refusal t) tt r (known table_numbers refl (refusal_numbered_lem t))
 
 -- and accepted exactly when no row is so.
-pub accepted_exactly : (t : List ℕ) → (judged t ≡ Accepted) ↔ (any so (table_rules t) ≡ false)
+pub accepted_exactly : (t : List ℕ) → (judged t ≡ Ok tt) ↔ (any so (table_rules t) ≡ false)
 unfolding judged
 accepted_exactly t =
     let none = given_none t in
-    let zero = exactly judged_numbers judged_of judged_of_lem (table_refusal t) 0 in
+    let zero = ok_exactly (table_refusal t) tt in
     (λ e. none.0 (zero.0 e), λ e. zero.1 (none.1 e))
 
 -- ---- "the first faulty entry decides"
@@ -145,10 +149,10 @@ module _ (t : List ℕ) where
   unfolding table_rules any wrong_type cut_or_miscounted
   before_12 e = rw e
 
-  pub refused_10 : (judged t ≡ Refused type_number) ↔ ((any so (take 5 (table_rules t)) ≡ false) × FirstFault 0 type_number (base_entries t))
+  pub refused_10 : (judged t ≡ Err EntryType) ↔ ((any so (take 5 (table_rules t)) ≡ false) × FirstFault 0 type_number (base_entries t))
   unfolding wrong_type
   refused_10 =
-      let answer = refused_exactly t type_number (omega arith) in
+      let answer = refused_exactly t EntryType in
       let given = given_10 t in
       let first = first_faulty_decides t type_number (omega arith) in (
         λ e. let g = given.0 (answer.0 e) in (g.0, first.0 (eqb-true (walk_fault t) type_number g.1)),
@@ -156,18 +160,18 @@ module _ (t : List ℕ) where
       )
 
   -- 11 has two causes: see `first_faulty_decides` for the cut entry, and `count_compared` for the count.
-  pub refused_11 : (judged t ≡ Refused cut_number) ↔ ((any so (take 5 (table_rules t)) ≡ false) × (cut_or_miscounted t ≡ true))
+  pub refused_11 : (judged t ≡ Err EntryCut) ↔ ((any so (take 5 (table_rules t)) ≡ false) × (cut_or_miscounted t ≡ true))
   refused_11 =
-      let answer = refused_exactly t cut_number (omega arith) in
+      let answer = refused_exactly t EntryCut in
       let given = given_11 t in (
         λ e. let g = given.0 (answer.0 e) in (sym (before_11 g.1) ∙ g.0, g.1),
         λ g. answer.1 (given.1 (before_11 g.1 ∙ g.0, g.1)),
       )
 
-  pub refused_12 : (judged t ≡ Refused order_number) ↔ ((any so (take 5 (table_rules t)) ≡ false) × FirstFault 0 order_number (base_entries t))
+  pub refused_12 : (judged t ≡ Err EntryOrder) ↔ ((any so (take 5 (table_rules t)) ≡ false) × FirstFault 0 order_number (base_entries t))
   unfolding descending_type
   refused_12 =
-      let answer = refused_exactly t order_number (omega arith) in
+      let answer = refused_exactly t EntryOrder in
       let given = given_12 t in
       let first = first_faulty_decides t order_number (omega arith) in (
         λ e. let g = given.0 (answer.0 e) in

@@ -16,10 +16,11 @@ use Rattle.mps.specs.Writing.{Parts, image, image_size, early_refusal, write_ref
 use Rattle.mps.specs.Routes.{Question, routes_of, route_refusal, routed, routes_left}
 use Rattle.mps.specs.Slots.{Slot, slot_routes_of, slot_refusal, slot_routed, slot_routes_left, slots_of, slots_refusal, slots_listed, slots_left}
 use Rattle.mps.specs.Renumber.{new_numbers_of, renumber_refusal, renumbered, renumber_left}
-use Rattle.mps.specs.declared.Lent.TheVariants.{Count}
+use Rattle.std.specs.Prelude.{Ok}
 use Rattle.laws.proofs.Tests.{whether}
 use Rattle.laws.proofs.Refusals.{first_none}
-use Rattle.laws.proofs.Lent.{left_kept, left_put, lent_kept, count_given, lent_shown}
+use Rattle.laws.proofs.Lent.{left_kept, left_put, lent_kept, lent_shown}
+use Rattle.laws.proofs.Answers.{given_ok}
 use Rattle.promises.proofs.Numbered.{write_number, write_judged, renumber_number}
 
 -- ---- "A refusal writes nothing into lent memory"
@@ -77,17 +78,17 @@ module _ (p : Parts) (room : List ℕ) where
 -- ---- "Answers and images start at their room's first byte; what lies past them stays."
 
 module _ (d room : List ℕ) {n : ℕ} where
-  pub list_shown : listed d room ≡ Count n → (n ≡ length (listing d)) × (list_left d room ≡ put (listing d) room)
+  pub list_shown : listed d room ≡ Ok n → (n ≡ length (listing d)) × (list_left d room ≡ put (listing d) room)
   unfolding listed list_left
   list_shown = lent_shown (list_refusal d room) _ (listing d) room
 
-  pub print_shown : printed d room ≡ Count n → (n ≡ length (program_output d)) × (print_left d room ≡ put (program_output d) room)
+  pub print_shown : printed d room ≡ Ok n → (n ≡ length (program_output d)) × (print_left d room ≡ put (program_output d) room)
   unfolding printed print_left fitted fit_left
   print_shown = lent_shown (room_refusal (program_output d) room) _ (program_output d) room
 
-pub write_shown : (p : Parts) (room : List ℕ) {n : ℕ} → written p room ≡ Count n → (n ≡ image_size p) × (write_left p room ≡ put (image p) room)
+pub write_shown : (p : Parts) (room : List ℕ) {n : ℕ} → written p room ≡ Ok n → (n ≡ image_size p) × (write_left p room ≡ put (image p) room)
 unfolding written write_refusal write_left finished
 write_shown p room e =
-    let g = count_given (write_refusal p room) (image_size p) (sym e) in
+    let g = given_ok (write_refusal p room) (image_size p) (sym e) in
     let z = first_none (early_refusal p room) (table_refusal (image p)) g.0 in
     (g.1, rw (z.0, z.1, left_put (image p) room))

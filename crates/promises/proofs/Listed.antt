@@ -26,11 +26,13 @@ use Rattle.mps.specs.Listing.{line, on_off, boot_ap, interrupt_name, cpu_line, b
 use Rattle.mps.specs.Listing.{base_line, extended_line, default_line, pointer_line, table_line, end_line, table_lines, listing}
 use Rattle.mps.specs.Listing.{refused_line, program_output, list_refusal, listed, list_left}
 use Rattle.mps.specs.declared.Held.{Held}
-use Rattle.mps.specs.declared.Held.TheVariants.{Default, Table, Refused}
-use Rattle.mps.specs.declared.Lent.TheVariants.{Count}
+use Rattle.mps.specs.declared.Held.TheVariants.{Default, Table}
+use Rattle.mps.specs.declared.refusals.Refusal.{Refusal}
+use Rattle.mps.specs.Reasons.{number_of_refusal}
+use Rattle.std.specs.Prelude.{Result, Ok, Err}
 use Rattle.laws.proofs.Tests.{whether, or_parts}
 use Rattle.laws.proofs.Refusals.{first_none, refusal_pass}
-use Rattle.laws.proofs.Lent.{count_given}
+use Rattle.laws.proofs.Answers.{given_ok}
 use Rattle.laws.proofs.Lists.{every_append, any_keep}
 use Rattle.laws.proofs.Joined.{joined_append, joined_same, joined_each}
 use Rattle.laws.proofs.Small.{Bytes, Small, small_none, small_more, small_cut, small_base, bytes_part, any_or}
@@ -53,7 +55,7 @@ use Rattle.promises.proofs.Legible.{state_readable, rank_readable, kind_readable
 
 -- "The table line has address, base length, extended length and count; entries follow in table order."
 pub listing_declared :
-    (d : List ℕ) (p b a s e : ℕ) → held d ≡ Table p b a s e
+    (d : List ℕ) (p b a s e : ℕ) → held d ≡ Ok (Table p b a s e)
     → let t = part s e d in
     listing d
     ≡ pointer_line p b
@@ -63,7 +65,7 @@ unfolding table_text table_lines
 listing_declared d p b a s e h = sym (table_text_lem d (held_table d p b a s e h).1)
 
 -- "A refusal or default is the only line."
-pub listing_default : (d : List ℕ) (n b : ℕ) → held d ≡ Default n b → listing d ≡ default_line n b
+pub listing_default : (d : List ℕ) (n b : ℕ) → held d ≡ Ok (Default n b) → listing d ≡ default_line n b
 listing_default d n b h =
     let q = held_default d n b h in
     sym (default_text d q.1 q.2 q.3)
@@ -352,36 +354,37 @@ unfolding program_output
 listing_output d e = rw e
 
 module _ (d : List ℕ) where
-  default_output : (n b : ℕ) → held d ≡ Default n b → program_output d ≡ joined line_of (lines_told d (Default n b))
+  default_output : (n b : ℕ) → held d ≡ Ok (Default n b) → program_output d ≡ joined line_of (lines_told d (Ok (Default n b)))
   unfolding lines_told joined line_of shown each default_line
   default_output n b e =
       listing_output d (held_default d n b e).0 ∙ listing_default d n b e ∙ sym (append-nil (default_line n b))
 
   table_output :
-      (p b a s e : ℕ) → held d ≡ Table p b a s e
-      → program_output d ≡ joined line_of (lines_told d (Table p b a s e))
+      (p b a s e : ℕ) → held d ≡ Ok (Table p b a s e)
+      → program_output d ≡ joined line_of (lines_told d (Ok (Table p b a s e)))
   unfolding lines_told table_text
   table_output p b a s e h =
       let k = held_table d p b a s e h in
       listing_output d k.0 ∙ sym (table_text_lem d k.1) ∙ table_lines_lem p b a (part s e d) (sym k.1.rules ∙ k.0)
 
-  refused_output : (n : ℕ) → held d ≡ Refused n → program_output d ≡ joined line_of (lines_told d (Refused n))
+  refused_output : (r : Refusal) → held d ≡ Err r → program_output d ≡ joined line_of (lines_told d (Err r))
   unfolding program_output lines_told joined line_of shown each refused_line
-  refused_output n e =
-      let k = held_number d n e in
+  refused_output r e =
+      let k = held_number d r e in
+      let n = number_of_refusal r in
       rw (k.0, ne_eqb n 0 (λ z. omega (arith, k.1, z))) (sym (append-nil (refused_line n)))
 
   -- The lines that the program writes are those of the fields of what the dump reader answers.
   pub output_lines : program_output d ≡ joined line_of (lines_told d (held d))
   output_lines = cases (held d) refl
     where
-      cases : (r : Held) → held d ≡ r → program_output d ≡ joined line_of (lines_told d r)
-      cases (Default n b) e = default_output n b e
-      cases (Table p b a s x) e = table_output p b a s x e
-      cases (Refused n) e = refused_output n e
+      cases : (r : Result Held Refusal) → held d ≡ r → program_output d ≡ joined line_of (lines_told d r)
+      cases (Ok (Default n b)) e = default_output n b e
+      cases (Ok (Table p b a s x)) e = table_output p b a s x e
+      cases (Err r) e = refused_output r e
 
-  refused_small : (n : ℕ) → held d ≡ Refused n → n < 19
-  refused_small n e = omega (arith, held_number d n e, dump_below d)
+  refused_small : (r : Refusal) → held d ≡ Err r → number_of_refusal r < 19
+  refused_small r e = omega (arith, held_number d r e, dump_below d)
 
   module _ (small : Bytes d) where
     -- Each of these fields is readable: its number is small enough for its digits, its name one of MPS Table 4-8.
@@ -389,18 +392,18 @@ module _ (d : List ℕ) where
     unfolding lines_told every visible text
     fields_readable = cases (held d) refl
       where
-        cases : (r : Held) → held d ≡ r → AllReadable (lines_told d r)
-        cases (Default n b) e =
+        cases : (r : Result Held Refusal) → held d ≡ r → AllReadable (lines_told d r)
+        cases (Ok (Default n b)) e =
             let k = default_narrow d n b e in
             let first = number_readable n (omega arith) in
             let second = number_readable b (omega arith) in
             rw (word_readable (text "default") refl, first, word_readable (text "imcr") refl, second)
-        cases (Table p b a s x) e =
+        cases (Ok (Table p b a s x)) e =
             let k = table_narrow d p b a s x small e in
             let h = held_table d p b a s x e in
             table_readable p b a (part s x d) (bytes_part s x d small) (sym h.1.rules ∙ h.0) k.0 k.1 k.2
-        cases (Refused n) e =
-            rw (word_readable (text "refused") refl, number_readable n (omega (arith, refused_small n e)))
+        cases (Err r) e =
+            rw (word_readable (text "refused") refl, number_readable (number_of_refusal r) (omega (arith, refused_small r e)))
 
     -- The value of field j of line i is read again from what is shown.
     pub fields_again : (i j : ℕ) → Again (get_or (get_or (lines_told d (held d)) i []) j (word []))
@@ -411,10 +414,10 @@ module _ (d : List ℕ) where
     output_told = rw output_lines (lines_apart (lines_told d (held d)) fields_readable)
 
     -- The same of the call: the bytes that it says it wrote.
-    pub list_told : (room : List ℕ) (n : ℕ) → listed d room ≡ Count n
+    pub list_told : (room : List ℕ) (n : ℕ) → listed d room ≡ Ok n
         → read_lines (take n (list_left d room)) ≡ shown_lines (lines_told d (held d))
     unfolding listed
     list_told room n e =
         let q = list_shown d room e in
-        let none = list_none d room (count_given (list_refusal d room) _ (sym e)).0 in
+        let none = list_none d room (given_ok (list_refusal d room) _ (sym e)).0 in
         rw (q.1, take_at (listing d) _ n (sym q.0), ← listing_output d none) output_told

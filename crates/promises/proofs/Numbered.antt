@@ -13,7 +13,7 @@ use borrow.Author.Tests.{eq-eqb, eqb-true, eqb-false, le-ltb}
 use Rattle.mps.specs.Words.{text, same, among, any, each, only, first}
 use Rattle.mps.specs.Refusals.{Rule, ◌when◌, refusal, room_number, default_number}
 use Rattle.mps.specs.Answers.{number_of, judged_numbers, examined_numbers, held_numbers, lent_numbers, parted_numbers, seen_numbers, edited_numbers, renumbered_numbers}
-use Rattle.mps.specs.Answers.{judged_of, examined_of, held_of, lent_of, parted_of, seen_of, edited_of, renumbered_of}
+use Rattle.mps.specs.Answers.{answered, edited_of}
 use Rattle.mps.specs.Rooms.{too_small, room_rules, lent_refusal, room_refusal, fitted}
 use Rattle.mps.specs.Layout.{known_revision, part_most, header_size, base_length, extended_end, base_bytes, base_entries}
 use Rattle.mps.specs.Sums.{sum256}
@@ -29,18 +29,18 @@ use Rattle.mps.specs.Routes.{Question, pair_size, routes_of, line_rules, route_r
 use Rattle.mps.specs.Slots.{Slot, slot_routes_of, slot_rules, slot_refusal, slot_routed, slot_size, slots_of, slots_refusal, slots_listed}
 use Rattle.mps.specs.Renumber.{new_numbers_of, used_numbers, bits_set, renumber_rules, renumber_refusal, renumbered}
 use Rattle.mps.specs.Addresses.{seen_by, address_rules, seen}
-use Rattle.mps.specs.declared.Parted.TheVariants.{Parts as Parted-as-Parts}
-use Rattle.mps.specs.Edits.{Edit, edit_rules, edit_refusal, edited, inner_refusal}
+use Rattle.mps.specs.Edits.{Edit, edited_table, edit_rules, edit_refusal, edited, inner_refusal}
 use Rattle.laws.proofs.Tests.{whether}
 use Rattle.laws.proofs.Lists.{among_none, among_cases, among_more}
 use Rattle.laws.proofs.Refusals.{number, so, first_some, first_none, refusal_append, refusal_passed, absent_only, given_exactly}
-use Rattle.laws.proofs.Lent.{lent_19, lent_before, lent_of_lem}
+use Rattle.laws.proofs.Lent.{lent_19, lent_before}
+use Rattle.laws.proofs.Answers.{Known, answered_number}
 use Rattle.sums.proofs.Laws.{stored_append}
 use Rattle.writer.proofs.Laws.{length_image}
 use Rattle.writer.proofs.Most.{early_fits}
 use Rattle.promises.specs.Numbered.{OneOf, table_numbers, pointer_numbers, edit_numbers, address_numbers, route_numbers, slot_numbers, slots_numbers, renumber_numbers, read_numbers, list_numbers, print_numbers, make_numbers, full_numbers, later_numbers, write_numbers}
 use Rattle.promises.proofs.Given.{Exactly}
-use Rattle.promises.proofs.Answered.{judged_of_lem, examined_of_lem, parted_of_lem, told_of, seen_of_lem, edited_of_lem, renumbered_of_lem}
+use Rattle.promises.proofs.Answered.{known, edited_number}
 use Rattle.promises.proofs.Headers.{header_sum, image_front, image_base_length}
 
 -- ---- The number of the first row that is so is a row's number, or 0
@@ -78,141 +78,138 @@ module _ (t : List ℕ) where
   unfolding table_refusal table_rules each
   refusal_numbered = refusal_among (table_rules t)
 
-  pub judge_number : number_of (judged_numbers (judged t)) ≡ table_refusal t
-  unfolding judged
-  judge_number = judged_of_lem (table_refusal t)
-
-  pub judge_numbered : OneOf judged_of (table_refusal t) table_numbers (judged t)
+  pub judge_numbered : OneOf (λ n. answered n tt) (table_refusal t) table_numbers (judged t)
   unfolding judged
   judge_numbered = one_of (table_refusal t) refl refusal_numbered
 
-  pub examine_number : number_of (examined_numbers (examined t)) ≡ table_refusal t
-  unfolding examined
-  examine_number = examined_of_lem (sections t) (table_refusal t)
+  pub judge_number : number_of (judged_numbers (judged t)) ≡ table_refusal t
+  unfolding judged
+  judge_number = answered_number _ (table_refusal t) _ (known table_numbers refl judge_numbered.known)
 
-  pub examine_numbered : OneOf (λ n. examined_of n (sections t)) (table_refusal t) table_numbers (examined t)
+  pub examine_numbered : OneOf (λ n. answered n (sections t)) (table_refusal t) table_numbers (examined t)
   unfolding examined
   examine_numbered = one_of (table_refusal t) refl refusal_numbered
 
-  pub parts_number : number_of (parted_numbers (parted t)) ≡ table_refusal t
-  unfolding parted
-  parts_number = parted_of_lem (base_length t) (extended_end t) (table_refusal t)
+  pub examine_number : number_of (examined_numbers (examined t)) ≡ table_refusal t
+  unfolding examined
+  examine_number = answered_number _ (table_refusal t) _ (known table_numbers refl examine_numbered.known)
 
-  pub parts_numbered : OneOf (λ n. parted_of n (Parted-as-Parts (base_length t) (extended_end t))) (table_refusal t) table_numbers (parted t)
+  pub parts_numbered : OneOf (λ n. answered n (record { base = base_length t; end = extended_end t })) (table_refusal t) table_numbers (parted t)
   unfolding parted
   parts_numbered = one_of (table_refusal t) refl refusal_numbered
 
-  module _ (bus kind address : ℕ) where
-    pub address_number : number_of (seen_numbers (seen t bus kind address)) ≡ refusal (address_rules t bus kind)
-    unfolding seen
-    address_number = seen_of_lem t bus kind address (refusal (address_rules t bus kind))
+  pub parts_number : number_of (parted_numbers (parted t)) ≡ table_refusal t
+  unfolding parted
+  parts_number = answered_number _ (table_refusal t) _ (known table_numbers refl parts_numbered.known)
 
-    pub address_numbered : OneOf (λ n. seen_of n (seen_by t bus kind address)) (refusal (address_rules t bus kind)) address_numbers (seen t bus kind address)
+  module _ (bus kind address : ℕ) where
+    pub address_numbered : OneOf (λ n. answered n (seen_by t bus kind address)) (refusal (address_rules t bus kind)) address_numbers (seen t bus kind address)
     unfolding seen address_rules table_rules each
     address_numbered = one_of (refusal (address_rules t bus kind)) refl (refusal_among (address_rules t bus kind))
 
-  module _ (q : Question) (room : List ℕ) where
-    pub routes_number : number_of (lent_numbers (routed q t room)) ≡ route_refusal q t room
-    unfolding routed
-    routes_number = lent_of_lem (route_refusal q t room) _
+    pub address_number : number_of (seen_numbers (seen t bus kind address)) ≡ refusal (address_rules t bus kind)
+    unfolding seen
+    address_number = answered_number _ (refusal (address_rules t bus kind)) _ (known address_numbers refl address_numbered.known)
 
-    pub routes_numbered : OneOf (λ n. lent_of n (length (routes_of q t) / pair_size)) (route_refusal q t room) route_numbers (routed q t room)
+  module _ (q : Question) (room : List ℕ) where
+    pub routes_numbered : OneOf (λ n. answered n (length (routes_of q t) / pair_size)) (route_refusal q t room) route_numbers (routed q t room)
     unfolding routed route_refusal lent_refusal room_rules line_rules table_rules each
     routes_numbered = one_of (route_refusal q t room) refl (refusal_among (room_rules (line_rules q t) (too_small (length (routes_of q t)) room)))
 
-  module _ (s : Slot) (room : List ℕ) where
-    pub slot_number_lem : number_of (lent_numbers (slot_routed s t room)) ≡ slot_refusal s t room
-    unfolding slot_routed
-    slot_number_lem = lent_of_lem (slot_refusal s t room) _
+    pub routes_number : number_of (lent_numbers (routed q t room)) ≡ route_refusal q t room
+    unfolding routed
+    routes_number = answered_number _ (route_refusal q t room) _ (known route_numbers refl routes_numbered.known)
 
-    pub slot_numbered : OneOf (λ n. lent_of n (length (slot_routes_of s t) / pair_size)) (slot_refusal s t room) slot_numbers (slot_routed s t room)
+  module _ (s : Slot) (room : List ℕ) where
+    pub slot_numbered : OneOf (λ n. answered n (length (slot_routes_of s t) / pair_size)) (slot_refusal s t room) slot_numbers (slot_routed s t room)
     unfolding slot_routed slot_refusal lent_refusal room_rules slot_rules table_rules each
     slot_numbered = one_of (slot_refusal s t room) refl (refusal_among (room_rules (slot_rules s t) (too_small (length (slot_routes_of s t)) room)))
 
-  module _ (room : List ℕ) where
-    pub slots_number : number_of (lent_numbers (slots_listed t room)) ≡ slots_refusal t room
-    unfolding slots_listed
-    slots_number = lent_of_lem (slots_refusal t room) _
+    pub slot_number_lem : number_of (lent_numbers (slot_routed s t room)) ≡ slot_refusal s t room
+    unfolding slot_routed
+    slot_number_lem = answered_number _ (slot_refusal s t room) _ (known slot_numbers refl slot_numbered.known)
 
-    pub slots_numbered : OneOf (λ n. lent_of n (length (slots_of t) / slot_size)) (slots_refusal t room) slots_numbers (slots_listed t room)
+  module _ (room : List ℕ) where
+    pub slots_numbered : OneOf (λ n. answered n (length (slots_of t) / slot_size)) (slots_refusal t room) slots_numbers (slots_listed t room)
     unfolding slots_listed slots_refusal lent_refusal room_rules table_rules each
     slots_numbered = one_of (slots_refusal t room) refl (refusal_among (room_rules (table_rules t) (too_small (length (slots_of t)) room)))
 
-    pub renumber_number : number_of (renumbered_numbers (renumbered t room)) ≡ renumber_refusal t room
-    unfolding renumbered
-    renumber_number = renumbered_of_lem _ _ (renumber_refusal t room)
+    pub slots_number : number_of (lent_numbers (slots_listed t room)) ≡ slots_refusal t room
+    unfolding slots_listed
+    slots_number = answered_number _ (slots_refusal t room) _ (known slots_numbers refl slots_numbered.known)
 
     pub renumber_numbered :
-        OneOf (λ n. renumbered_of n (length (new_numbers_of t)) (bits_set (used_numbers (base_entries t))))
+        OneOf (λ n. answered n (record { count = length (new_numbers_of t); used = bits_set (used_numbers (base_entries t)) }))
         (renumber_refusal t room) renumber_numbers (renumbered t room)
     unfolding renumbered renumber_refusal renumber_rules room_rules table_rules each
     renumber_numbered = one_of (renumber_refusal t room) refl (refusal_among (renumber_rules t room))
 
+    pub renumber_number : number_of (renumbered_numbers (renumbered t room)) ≡ renumber_refusal t room
+    unfolding renumbered
+    renumber_number = answered_number _ (renumber_refusal t room) _ (known used_numbers refl renumber_numbered.known)
+
   -- "A refusal returns its number alone, except 23": the inner number goes with it (Edits, inner-number).
   module _ (e : Edit) where
-    pub edit_number : number_of (edited_numbers (edited t e)) ≡ edit_refusal t e
-    unfolding edited
-    edit_number = edited_of_lem (inner_refusal t e) (edit_refusal t e)
-
     pub edit_numbered : OneOf (λ n. edited_of n (inner_refusal t e)) (edit_refusal t e) edit_numbers (edited t e)
     unfolding edited edit_refusal edit_rules table_rules each
     edit_numbered = one_of (edit_refusal t e) refl (refusal_among (edit_rules t e))
 
-module _ (d : List ℕ) where
-  pub find_number : number_of (held_numbers (pointed d)) ≡ refusal (pointer_rules d)
-  unfolding pointed
-  find_number = told_of d (refusal (pointer_rules d))
+    pub edit_number : number_of (edited_numbers (edited t e)) ≡ edit_refusal t e
+    unfolding edited
+    edit_number = edited_number edit_numbers (edit_refusal t e) (inner_refusal t e) refl edit_numbered.known
 
-  pub find_numbered : OneOf (λ n. held_of n (told d)) (refusal (pointer_rules d)) pointer_numbers (pointed d)
+module _ (d : List ℕ) where
+  pub find_numbered : OneOf (λ n. answered n (told d)) (refusal (pointer_rules d)) pointer_numbers (pointed d)
   unfolding pointed pointer_rules each
   find_numbered = one_of (refusal (pointer_rules d)) refl (refusal_among (pointer_rules d))
 
-  pub read_number : number_of (held_numbers (held d)) ≡ dump_refusal d
-  unfolding held
-  read_number = told_of d (dump_refusal d)
+  pub find_number : number_of (held_numbers (pointed d)) ≡ refusal (pointer_rules d)
+  unfolding pointed
+  find_number = answered_number _ (refusal (pointer_rules d)) _ (known pointer_numbers refl find_numbered.known)
 
   read_among : among (dump_refusal d) (0 ∷ read_numbers) ≡ true
   unfolding dump_refusal dump_rules pointer_rules each
   read_among = rw (← append-nil (only (not (is_default d)) (table_rules (table_in d)))) (dump_among d (not (is_default d)) [])
 
-  pub read_numbered : OneOf (λ n. held_of n (told d)) (dump_refusal d) read_numbers (held d)
+  pub read_numbered : OneOf (λ n. answered n (told d)) (dump_refusal d) read_numbers (held d)
   unfolding held
   read_numbered = one_of (dump_refusal d) refl read_among
 
-  module _ (room : List ℕ) where
-    pub list_number : number_of (lent_numbers (listed d room)) ≡ list_refusal d room
-    unfolding listed
-    list_number = lent_of_lem (list_refusal d room) _
+  pub read_number : number_of (held_numbers (held d)) ≡ dump_refusal d
+  unfolding held
+  read_number = answered_number _ (dump_refusal d) _ (known read_numbers refl read_numbered.known)
 
-    pub list_numbered : OneOf (λ n. lent_of n (length (listing d))) (list_refusal d room) list_numbers (listed d room)
+  module _ (room : List ℕ) where
+    pub list_numbered : OneOf (λ n. answered n (length (listing d))) (list_refusal d room) list_numbers (listed d room)
     unfolding listed list_refusal lent_refusal room_rules dump_rules pointer_rules each
     list_numbered = one_of (list_refusal d room) refl (dump_among d (not (is_default d)) (room_number when too_small (length (listing d)) room ∷ []))
 
-    pub print_number : number_of (lent_numbers (printed d room)) ≡ room_refusal (program_output d) room
-    unfolding printed fitted
-    print_number = lent_of_lem (room_refusal (program_output d) room) _
+    pub list_number : number_of (lent_numbers (listed d room)) ≡ list_refusal d room
+    unfolding listed
+    list_number = answered_number _ (list_refusal d room) _ (known list_numbers refl list_numbered.known)
 
-    pub print_numbered : OneOf (λ n. lent_of n (length (program_output d))) (room_refusal (program_output d) room) print_numbers (printed d room)
+    pub print_numbered : OneOf (λ n. answered n (length (program_output d))) (room_refusal (program_output d) room) print_numbers (printed d room)
     unfolding printed fitted room_refusal lent_refusal room_rules each
     print_numbered = one_of (room_refusal (program_output d) room) refl (refusal_among (room_number when too_small (length (program_output d)) room ∷ []))
+
+    pub print_number : number_of (lent_numbers (printed d room)) ≡ room_refusal (program_output d) room
+    unfolding printed fitted
+    print_number = answered_number _ (room_refusal (program_output d) room) _ (known print_numbers refl print_numbered.known)
 
 -- ---- The tables of the default configurations, and the full listing
 
 module _ (n boot : ℕ) (room : List ℕ) where
-  pub make_number : number_of (lent_numbers (made n boot room)) ≡ make_refusal n boot room
-  unfolding made
-  make_number = lent_of_lem (make_refusal n boot room) _
-
-  pub make_numbered : OneOf (λ k. lent_of k (length (default_table n boot))) (make_refusal n boot room) make_numbers (made n boot room)
+  pub make_numbered : OneOf (λ k. answered k (length (default_table n boot))) (make_refusal n boot room) make_numbers (made n boot room)
   unfolding made make_refusal lent_refusal room_rules each
   make_numbered =
       one_of (make_refusal n boot room) refl
       (refusal_among (room_rules (default_number when no_default n boot ∷ []) (too_small (length (default_table n boot)) room)))
 
+  pub make_number : number_of (lent_numbers (made n boot room)) ≡ make_refusal n boot room
+  unfolding made
+  make_number = answered_number _ (make_refusal n boot room) _ (known make_numbers refl make_numbered.known)
+
 module _ (d : List ℕ) (boot : ℕ) (room : List ℕ) where
-  pub full_number : number_of (lent_numbers (full_listed d boot room)) ≡ full_refusal d boot room
-  unfolding full_listed
-  full_number = lent_of_lem (full_refusal d boot room) _
 
   full_among : among (full_refusal d boot room) (0 ∷ full_numbers) ≡ true
   unfolding full_refusal lent_refusal room_rules full_rules dump_rules pointer_rules each
@@ -222,9 +219,13 @@ module _ (d : List ℕ) (boot : ℕ) (room : List ℕ) where
       rw (append_assoc (only (not (is_default d)) (table_rules (table_in d))) (wrong ∷ []) (short ∷ []))
       (dump_among d (not (is_default d)) (wrong ∷ short ∷ []))
 
-  pub full_numbered : OneOf (λ k. lent_of k (length (full_listing d boot))) (full_refusal d boot room) full_numbers (full_listed d boot room)
+  pub full_numbered : OneOf (λ k. answered k (length (full_listing d boot))) (full_refusal d boot room) full_numbers (full_listed d boot room)
   unfolding full_listed
   full_numbered = one_of (full_refusal d boot room) refl full_among
+
+  pub full_number : number_of (lent_numbers (full_listed d boot room)) ≡ full_refusal d boot room
+  unfolding full_listed
+  full_number = answered_number _ (full_refusal d boot room) _ (known full_numbers refl full_numbered.known)
 
 -- An image whose parts fit passes 5 to 9: its length, its signature, its base length, its sum and its revision are made so.
 module _ (p : Parts) (room : List ℕ) (early : early_refusal p room ≡ 0) where
@@ -268,9 +269,6 @@ module _ (p : Parts) (room : List ℕ) (early : early_refusal p room ≡ 0) wher
   image_number = refusal_passed (take 5 (table_rules (image p))) (drop 5 (table_rules (image p))) image_passes
 
 module _ (p : Parts) (room : List ℕ) where
-  pub write_number : number_of (lent_numbers (written p room)) ≡ write_refusal p room
-  unfolding written
-  write_number = lent_of_lem (write_refusal p room) _
 
   early_among : among (early_refusal p room) (0 ∷ 7 ∷ 13 ∷ 19 ∷ []) ≡ true
   unfolding early_refusal lent_refusal room_rules part_rules each
@@ -287,9 +285,13 @@ module _ (p : Parts) (room : List ℕ) where
       rw (first_some (early_refusal p room) (table_refusal (image p)) (eqb-false (early_refusal p room) 0 z))
       (among_more _ (0 ∷ 7 ∷ 13 ∷ 19 ∷ []) later_numbers [] early_among))
 
-  pub write_numbered : OneOf (λ n. lent_of n (image_size p)) (write_refusal p room) write_numbers (written p room)
+  pub write_numbered : OneOf (λ n. answered n (image_size p)) (write_refusal p room) write_numbers (written p room)
   unfolding written
   write_numbered = one_of (write_refusal p room) refl write_among
+
+  pub write_number : number_of (lent_numbers (written p room)) ≡ write_refusal p room
+  unfolding written
+  write_number = answered_number _ (write_refusal p room) _ (known write_numbers refl write_numbered.known)
 
 -- ---- The numbers of the listing and the writer, given exactly when
 
@@ -375,3 +377,8 @@ module _ (d : List ℕ) where
       let m : dump_refusal d ≡ table = pointer_first ∙ rw (eqb-true (refusal (pointer_rules d)) 0 z) in
       absurd (not_both (dump_refusal d) q (rw (← m) at (rest_among (not (is_default d))))))
       (λ z. rw (pointer_first ∙ first_some (refusal (pointer_rules d)) _ (eqb-false (refusal (pointer_rules d)) 0 z)))
+
+-- The inner number is a table's.
+pub inner_known : (t : List ℕ) (e : Edit) → Known (inner_refusal t e)
+unfolding inner_refusal
+inner_known t e = known table_numbers refl (refusal_numbered (edited_table t e))

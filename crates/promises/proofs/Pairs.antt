@@ -13,14 +13,15 @@ use borrow.Author.Tests.{ltb-true, ltb-false}
 use Rattle.mps.specs.Words.{byte, among, keep, each, only, joined}
 use Rattle.mps.specs.Layout.{Entry, everyone, of_type, enabled, id_of, input}
 use Rattle.mps.specs.Rules.{enabled_of, enabled_ids}
-use Rattle.mps.specs.Answers.{lent_of}
+use Rattle.mps.specs.Answers.{answered}
 use Rattle.mps.specs.Rooms.{lent_left}
 use Rattle.mps.specs.Routes.{names, pair_size, pair, pairs_to}
-use Rattle.mps.specs.declared.Lent.TheVariants.{Count}
+use Rattle.std.specs.Prelude.{Ok}
 use Rattle.laws.proofs.Tests.{whether, and_parts}
 use Rattle.laws.proofs.Lists.{among_first, among_rest, keep_keep, byte_right}
 use Rattle.laws.proofs.Joined.{joined_same, joined_keep, joined_each, joined_only}
-use Rattle.laws.proofs.Lent.{left_put, count_given}
+use Rattle.laws.proofs.Lent.{left_put}
+use Rattle.laws.proofs.Answers.{given_ok}
 use Rattle.promises.specs.Declared.{target, declares, pairs_declared, PairDeclared, Stands}
 
 -- ---- In order
@@ -186,10 +187,10 @@ module _ (asked : Entry → Bool) (targets : ℕ) (es : List Entry) where
 -- ---- The calls: each answers a number and a count, and leaves the pairs in its room
 
 module _ (asked : Entry → Bool) (targets : ℕ) (es : List Entry) (given : ℕ) (room : List ℕ) {n : ℕ}
-    (r : lent_of given (length (pairs_declared asked targets es) / pair_size) ≡ Count n) where
+    (r : answered given (length (pairs_declared asked targets es) / pair_size) ≡ Ok n) where
   -- What is answered, and of which call.
   counted : (given ≡ 0) × (n ≡ length (pairs_declared asked targets es) / pair_size)
-  counted = count_given _ _ (sym r)
+  counted = given_ok _ _ (sym r)
 
   -- The count is that of the pairs.
   pub pairs_count : length (pairs_declared asked targets es) ≡ n * pair_size

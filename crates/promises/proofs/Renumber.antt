@@ -19,7 +19,9 @@ use Rattle.mps.specs.Refusals.{◌when◌}
 use Rattle.mps.specs.Rooms.{too_small, room_rules}
 use Rattle.mps.specs.Renumber.{shares, kept_ids, held_ids, new_numbers, none_free, used_numbers, bits_set}
 use Rattle.mps.specs.Renumber.{new_numbers_of, renumber_rules, renumber_refusal, renumbered, renumber_left}
-use Rattle.mps.specs.declared.Renumbered.TheVariants.{Given}
+use Rattle.std.specs.Prelude.{Ok}
+use Rattle.mps.specs.declared.Renumbered.{Renumbered}
+use Rattle.laws.proofs.Answers.{given_ok}
 use Rattle.laws.proofs.Tests.{whether, or_parts}
 use Rattle.laws.proofs.Lists.{any_append, at_among, length_each, keep_keep, keep_agree}
 use Rattle.laws.proofs.Refusals.{so, refusal_none, given_before, given_exactly}
@@ -30,7 +32,6 @@ use Rattle.laws.proofs.Renumber.{kept_of, length_numbers, numbers_all_own, numbe
 use Rattle.laws.proofs.Renumber.{lowest_below, lowest_out_lem, lowest_under}
 use Rattle.accepted.proofs.Numbering.{new_most, none_free_lem, used_apart as All-apart, new_below, used_count}
 use Rattle.promises.specs.Renumber.{apic_at, held, LowestFree}
-use Rattle.promises.proofs.Answered.{renumbered_given}
 use Rattle.promises.proofs.Given.{Exactly, given_none}
 
 -- "The answer has a byte for each enabled one."
@@ -192,10 +193,12 @@ nothing_shared_26 t room h e = false≢true (sym (nothing_shared (base_entries t
 
 -- ---- The answer: the call answers `renumbered` and leaves `renumber_left`
 
-module _ (t room : List ℕ) {n bits : ℕ} (r : renumbered t room ≡ Given n bits) where
+module _ (t room : List ℕ) {n bits : ℕ} (r : renumbered t room ≡ Ok (record { count = n; used = bits })) where
   told : (renumber_refusal t room ≡ 0) × (n ≡ length (new_numbers_of t)) × (bits ≡ bits_set (used_numbers (base_entries t)))
   unfolding renumbered
-  told = renumbered_given _ _ _ (sym r)
+  told =
+      let g = given_ok (renumber_refusal t room) _ (sym r) in
+      (g.0, ap (λ (x : Renumbered). x.count) g.1, ap (λ (x : Renumbered). x.used) g.1)
 
   accepted : table_refusal t ≡ 0
   accepted = ((renumber_given_when t room).0 told.0).0

@@ -15,7 +15,7 @@ use Rattle.mps.specs.Judge.{table_rules, table_refusal}
 use Rattle.mps.specs.Refusals.{◌when◌}
 use Rattle.mps.specs.Rooms.{too_small, room_rules, lent_refusal}
 use Rattle.mps.specs.Routes.{Question, question, matches, pair_size, routes, routes_of, wrong_line, line_rules, route_refusal, routed, routes_left}
-use Rattle.mps.specs.declared.Lent.TheVariants.{Count}
+use Rattle.std.specs.Prelude.{Ok}
 use Rattle.laws.proofs.Refusals.{so, refusal_none, given_before, given_exactly}
 use Rattle.laws.proofs.Lent.{lent_19}
 use Rattle.accepted.proofs.Obeyed.{obeyed}
@@ -29,7 +29,7 @@ routes_declared q es = pairs_declared_lem (matches q) q.side.targets es
 
 -- ---- The calls: each that a contract allows answers `routed` and leaves `routes_left`
 
-module _ (q : Question) (t room : List ℕ) {n : ℕ} (r : routed q t room ≡ Count n) where
+module _ (q : Question) (t room : List ℕ) {n : ℕ} (r : routed q t room ≡ Ok n) where
   -- The count is that of the pairs.
   pub routes_count : length (declared q (base_entries t)) ≡ n * pair_size
   unfolding routed routes_of

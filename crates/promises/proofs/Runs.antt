@@ -7,9 +7,9 @@ use Rattle.mps.specs.Layout.{extended_end, base_entries}
 use Rattle.mps.specs.Judge.{table_refusal}
 use Rattle.mps.specs.Writing.{written, write_left}
 use Rattle.mps.specs.Edits.{Edit, edited, edit_left, run, run_answers}
-use Rattle.mps.specs.declared.Lent.TheVariants.{Count}
-use Rattle.mps.specs.declared.Edited.{Edited}
-use Rattle.mps.specs.declared.Edited.TheVariants.{Done, Refused, Inner}
+use Rattle.std.specs.Prelude.{Ok, Err, Result}
+use Rattle.mps.specs.declared.refusals.EditRefusal.{EditRefusal}
+use Rattle.mps.specs.declared.refusals.EditRefusal.TheVariants.{Refused, Inner}
 use Rattle.laws.proofs.Small.{Bytes, Small, small_more}
 use Rattle.promises.specs.Runs.{accepted, put_in, parts_with}
 use Rattle.promises.proofs.Edits.{done_accepted, done_or, refused_unchanged}
@@ -19,17 +19,17 @@ use Rattle.promises.proofs.Fresh.{Kept, kept_all, kept_then, kept_fresh, edited_
 
 -- Calls made one after another, each answered and left as the definitions say. That the editor's calls are such, from Rattle and
 -- from C, is `contracts`, Calls.
-pub data Calls : List ℕ → List Edit → List Edited → List ℕ → Type 0 where
+pub data Calls : List ℕ → List Edit → List (Result (Unit {0}) EditRefusal) → List ℕ → Type 0 where
   no_call : {t : List ℕ} → Calls t [] [] t
-  call : {t u v : List ℕ} {e : Edit} {es : List Edit} {r : Edited} {rs : List Edited}
+  call : {t u v : List ℕ} {e : Edit} {es : List Edit} {r : (Result (Unit {0}) EditRefusal)} {rs : List (Result (Unit {0}) EditRefusal)}
       → (r ≡ edited t e) × (u ≡ edit_left t e) → Calls u es rs v → Calls t (e ∷ es) (r ∷ rs) v
 
-pub calls_run : {t v : List ℕ} {es : List Edit} {rs : List Edited} → Calls t es rs v → (rs ≡ run_answers t es) × (v ≡ run t es)
+pub calls_run : {t v : List ℕ} {es : List Edit} {rs : List (Result (Unit {0}) EditRefusal)} → Calls t es rs v → (rs ≡ run_answers t es) × (v ≡ run t es)
 unfolding run run_answers
 calls_run no_call = (refl, refl)
 calls_run (call {t = t} {e = e} p c) =
     let h = calls_run c in
-    (rw (p.0, ← p.1) (ap (λ (rs : List Edited). edited t e ∷ rs) h.0), rw (← p.1) h.1)
+    (rw (p.0, ← p.1) (ap (λ (rs : List (Result (Unit {0}) EditRefusal)). edited t e ∷ rs) h.0), rw (← p.1) h.1)
 
 -- ---- What it leaves
 
@@ -62,11 +62,10 @@ run_kept t [] = kept_all t
 run_kept t (e ∷ es) = kept_then t (edit_left t e) (run (edit_left t e) es) (left_kept t e) (run_kept (edit_left t e) es)
 
 -- An edit that was not answered as done is passed over.
-accepted_skip : (e : Edit) (es : List Edit) (r : Edited) (rs : List Edited) → (r ≡ Done → ⊥) → accepted (e ∷ es) (r ∷ rs) ≡ accepted es rs
+accepted_skip : (e : Edit) (es : List Edit) (r : (Result (Unit {0}) EditRefusal)) (rs : List (Result (Unit {0}) EditRefusal)) → (r ≡ Ok tt → ⊥) → accepted (e ∷ es) (r ∷ rs) ≡ accepted es rs
 unfolding accepted
-accepted_skip e es Done rs n = absurd (n refl)
-accepted_skip e es (Refused k) rs n = refl
-accepted_skip e es (Inner k) rs n = refl
+accepted_skip e es (Ok u) rs n = absurd (n refl)
+accepted_skip e es (Err r) rs n = refl
 
 -- "Over any run of edits, the table is the first one with the accepted edits put in, in order": its entries are so,
 run_entries : (t : List ℕ) (es : List Edit) → base_entries (run t es) ≡ put_in (base_entries t) (accepted es (run_answers t es))
@@ -78,14 +77,14 @@ run_entries t (e ∷ es) =
     (λ d. rw (d, edited_entries t e d))
     (λ n. rw (accepted_skip e es (edited t e) (run_answers (edit_left t e) es) n, refused_unchanged t e n))
 
-module _ (t v : List ℕ) (es : List Edit) (rs : List Edited) (c : Calls t es rs v) where
+module _ (t v : List ℕ) (es : List Edit) (rs : List (Result (Unit {0}) EditRefusal)) (c : Calls t es rs v) where
   pub calls_entries : base_entries v ≡ put_in (base_entries t) (accepted es rs)
   calls_entries = let h = calls_run c in rw (h.0, h.1) (run_entries t es)
 
   -- and all of it is what the writer makes afresh of them and of the first one's other parts.
   pub calls_fresh : Good t → Small (wanted_of es)
       → let p = parts_with t (put_in (base_entries t) (accepted es rs)) in
-      (written p t ≡ Count (extended_end t)) × (write_left p t ≡ v)
+      (written p t ≡ Ok (extended_end t)) × (write_left p t ≡ v)
   calls_fresh g s =
       let h = calls_run c in
       let u = run_good t es g s in

@@ -16,12 +16,13 @@ use Rattle.mps.specs.Judge.{table_rules, table_refusal}
 use Rattle.mps.specs.Refusals.{◌when◌}
 use Rattle.mps.specs.Rooms.{too_small, room_rules, lent_refusal}
 use Rattle.mps.specs.Slots.{Slot, names_slot, on_pci, wired_from, slot_routed, slot_routes_left, slot_size, slots_of, slots_refusal, slots_listed, slots_left}
-use Rattle.mps.specs.declared.Lent.TheVariants.{Count}
+use Rattle.std.specs.Prelude.{Ok}
 use Rattle.laws.proofs.Tests.{whether, and_parts}
 use Rattle.laws.proofs.Lists.{any_none, any_append, keep_most}
 use Rattle.laws.proofs.Small.{Bytes}
 use Rattle.laws.proofs.Refusals.{so, refusal_none}
-use Rattle.laws.proofs.Lent.{lent_19, lent_before, left_put, count_given}
+use Rattle.laws.proofs.Lent.{lent_19, lent_before, left_put}
+use Rattle.laws.proofs.Answers.{given_ok}
 use Rattle.accepted.proofs.Sound.{sound, entries_least}
 use Rattle.slots.specs.Sets.{slot_of}
 use Rattle.promises.specs.Declared.{declares}
@@ -32,10 +33,10 @@ use Rattle.promises.proofs.SlotCodes.{codes, slots_length, slot_there, codes_ris
 
 -- ---- The call: it answers `slots_listed` and leaves `slots_left`
 
-module _ (t room : List ℕ) {n : ℕ} (r : slots_listed t room ≡ Count n) where
+module _ (t room : List ℕ) {n : ℕ} (r : slots_listed t room ≡ Ok n) where
   counted : (slots_refusal t room ≡ 0) × (n ≡ length (slots_of t) / slot_size)
   unfolding slots_listed
-  counted = count_given _ _ (sym r)
+  counted = given_ok _ _ (sym r)
 
   coded : n ≡ length (codes (base_entries t))
   unfolding slots_of
@@ -124,8 +125,8 @@ module _ (t room : List ℕ) where
 
 -- ---- A slot that has a pair is listed
 
-pub slot_with_pair_listed : (s : Slot) (t room rooms : List ℕ) {n m : ℕ} → Bytes t → slot_routed s t room ≡ Count n → 0 < n
-    → slots_listed t rooms ≡ Count m → SlotStands m (slots_left t rooms) s
+pub slot_with_pair_listed : (s : Slot) (t room rooms : List ℕ) {n m : ℕ} → Bytes t → slot_routed s t room ≡ Ok n → 0 < n
+    → slots_listed t rooms ≡ Ok m → SlotStands m (slots_left t rooms) s
 unfolding declares wired_from slot_routed
 slot_with_pair_listed s t room rooms b r some l =
     let es = base_entries t in
@@ -134,7 +135,7 @@ slot_with_pair_listed s t room rooms b r some l =
     let e = get_or es pair.line [] in
     let wired = (and_parts (wired_from s e) _ pair.route).0 in
     let named = (and_parts (eqb (interrupt_type e) vectored) (names_slot s e) wired).1 in
-    let pci = (slot_answered s t room (count_given _ _ (sym r)).0).bus_pci in
+    let pci = (slot_answered s t room (given_ok _ _ (sym r)).0).bus_pci in
     (slot_listed_exactly t rooms l b s).1 (
       pci,
       whether (any (names_slot s) es) (λ y. y)

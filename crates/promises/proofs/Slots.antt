@@ -18,7 +18,7 @@ use Rattle.mps.specs.Refusals.{◌when◌}
 use Rattle.mps.specs.Rooms.{too_small, room_rules, lent_refusal}
 use Rattle.mps.specs.Routes.{pair_size}
 use Rattle.mps.specs.Slots.{Slot, on_pci, wired_from, slot_routes, slot_routes_of, wrong_slot, slot_rules, slot_refusal, slot_routed, slot_routes_left}
-use Rattle.mps.specs.declared.Lent.TheVariants.{Count}
+use Rattle.std.specs.Prelude.{Ok}
 use Rattle.laws.proofs.Tests.{or_parts}
 use Rattle.laws.proofs.Lists.{any_append}
 use Rattle.laws.proofs.Refusals.{so, refusal_none, given_before, given_exactly}
@@ -35,7 +35,7 @@ pub slot_routes_declared : (s : Slot) (es : List Entry) → slot_routes s es ≡
 unfolding slot_routes
 slot_routes_declared s es = pairs_declared_lem (wired_from s) io_apic_type es
 
-module _ (s : Slot) (t room : List ℕ) {n : ℕ} (r : slot_routed s t room ≡ Count n) where
+module _ (s : Slot) (t room : List ℕ) {n : ℕ} (r : slot_routed s t room ≡ Ok n) where
   -- The count is that of the pairs.
   pub slot_routes_count : length (slot_declared s (base_entries t)) ≡ n * pair_size
   unfolding slot_routed slot_routes_of

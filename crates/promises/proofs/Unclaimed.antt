@@ -14,10 +14,12 @@ use Rattle.mps.specs.Refusals.{refusal}
 use Rattle.mps.specs.Layout.{Entry, bus_type, space_kind_most, extended_bus, parent_bus, base_entries, extended_entries}
 use Rattle.mps.specs.Rules.{is_listed, ids_of, links, on_bus, parents_of}
 use Rattle.mps.specs.Judge.{table_refusal}
-use Rattle.mps.specs.Answers.{seen_of, links_of}
+use Rattle.std.specs.Prelude.{Ok}
+use Rattle.mps.specs.Answers.{answered, links_in, links_of}
+use Rattle.laws.proofs.Answers.{given_ok}
 use Rattle.mps.specs.Addresses.{Say, says, answer, another, others, claims, silent, claim_beside, silence_beside, unclaimed, leaves, climb, seen_by, address_rules, seen}
 use Rattle.mps.specs.declared.Seen.{Seen}
-use Rattle.mps.specs.declared.Seen.TheVariants.{No, Yes, Undeclared, Refused}
+use Rattle.mps.specs.declared.Seen.TheVariants.{No, Yes, Undeclared}
 use Rattle.laws.proofs.Tests.{whether, or_parts, eqb_comm}
 use Rattle.laws.proofs.Lists.{among_none, keep_in, keep_out}
 use Rattle.laws.proofs.Circle.{parents_of_here, parents_of_skip, link_among}
@@ -25,18 +27,18 @@ use Rattle.laws.proofs.Claims.{is_yes, is_undeclared, claims_yes, silent_undecla
 use Rattle.addresses.proofs.Links.{links_leaves}
 use Rattle.addresses.proofs.Climbs.{parent_linked, answer_above}
 use Rattle.promises.specs.Climbed.{onward, parent_of, claim_of, silence_of, climb_before, seen_before, share_parent}
-use Rattle.promises.proofs.Addresses.{seen_says}
+use Rattle.promises.proofs.Addresses.{seen_says, parent_answers}
 
 -- ---- "The earlier steps and the link count stay."
 
-links_answered : (s : Say) (k : ℕ) (x y : Seen) → links_of x ≡ links_of y → links_of (answer s k x) ≡ links_of (answer s k y)
+links_answered : (s : Say) (k : ℕ) (x y : Seen) → links_in x ≡ links_in y → links_in (answer s k x) ≡ links_in (answer s k y)
 links_answered Say.no k x y e = refl
 links_answered Say.yes k x y e = refl
 links_answered Say.parent k x y e = e
 links_answered Say.undeclared k x y e = refl
 
 links_climbed : (left : ℕ) (xs : List Entry) (bus kind address k : ℕ)
-    → links_of (climb left xs bus kind address k) ≡ links_of (climb_before left xs bus kind address k)
+    → links_in (climb left xs bus kind address k) ≡ links_in (climb_before left xs bus kind address k)
 unfolding climb climb_before
 links_climbed zero xs bus kind address k = refl
 links_climbed (suc left) xs bus kind address k =
@@ -44,7 +46,7 @@ links_climbed (suc left) xs bus kind address k =
     links_answered (says xs bus kind address) k _ _
     (links_leaves xs up bus kind address _ ∙ links_climbed left xs up kind address (k + 1))
 
-links_of_lem : (n : ℕ) (x y : Seen) → links_of x ≡ links_of y → links_of (seen_of n x) ≡ links_of (seen_of n y)
+links_of_lem : (n : ℕ) (x y : Seen) → links_in x ≡ links_in y → links_of (answered n x) ≡ links_of (answered n y)
 links_of_lem zero x y e = e
 links_of_lem (suc n) x y e = refl
 
@@ -66,7 +68,7 @@ pub steps_stay : (t : List ℕ) (bus kind address : ℕ) → (says (extended_ent
     → seen t bus kind address ≡ seen_before t bus kind address
 unfolding seen seen_before seen_by
 steps_stay t bus kind address n =
-    ap (seen_of (refusal (address_rules t bus kind)))
+    ap (answered (refusal (address_rules t bus kind)))
     (steps_climbed (length (ids_of bus_type (base_entries t)) - 1) (extended_entries t) bus kind address 0 n)
 
 -- An answer that is not yes is left as it is.
@@ -87,16 +89,16 @@ yes_climbed (suc left) xs bus kind address k n =
     rw same (leaves_same xs up bus kind address _ m))
 
 -- Only a yes can have changed.
-pub yes_alone : (t : List ℕ) (bus kind address : ℕ) → ((k : ℕ) → seen_before t bus kind address ≡ Yes k → ⊥)
+pub yes_alone : (t : List ℕ) (bus kind address : ℕ) → ((k : ℕ) → seen_before t bus kind address ≡ Ok (Yes k) → ⊥)
     → seen t bus kind address ≡ seen_before t bus kind address
 unfolding seen seen_before seen_by
 yes_alone t bus kind address = cases (refusal (address_rules t bus kind))
   where
     cases : (n : ℕ)
-        → ((k : ℕ) → seen_of n (climb_before (length (ids_of bus_type (base_entries t)) - 1) (extended_entries t) bus kind address 0) ≡ Yes k → ⊥)
-        → seen_of n (climb (length (ids_of bus_type (base_entries t)) - 1) (extended_entries t) bus kind address 0)
-        ≡ seen_of n (climb_before (length (ids_of bus_type (base_entries t)) - 1) (extended_entries t) bus kind address 0)
-    cases zero m = yes_climbed (length (ids_of bus_type (base_entries t)) - 1) (extended_entries t) bus kind address 0 m
+        → ((k : ℕ) → answered n (climb_before (length (ids_of bus_type (base_entries t)) - 1) (extended_entries t) bus kind address 0) ≡ Ok (Yes k) → ⊥)
+        → answered n (climb (length (ids_of bus_type (base_entries t)) - 1) (extended_entries t) bus kind address 0)
+        ≡ answered n (climb_before (length (ids_of bus_type (base_entries t)) - 1) (extended_entries t) bus kind address 0)
+    cases zero m = ap Ok (yes_climbed (length (ids_of bus_type (base_entries t)) - 1) (extended_entries t) bus kind address 0 (λ j e. m j (ap Ok e)))
     cases (suc n) m = refl
 
 -- ---- No two buses share a parent
@@ -154,7 +156,7 @@ alone_climbed (suc left) xs bus kind address k t =
 pub alone_same : (t : List ℕ) (bus kind address : ℕ) → share_parent t ≡ false → seen t bus kind address ≡ seen_before t bus kind address
 unfolding seen seen_before seen_by
 alone_same t bus kind address n =
-    ap (seen_of (refusal (address_rules t bus kind)))
+    ap (answered (refusal (address_rules t bus kind)))
     (alone_climbed (length (ids_of bus_type (base_entries t)) - 1) (extended_entries t) bus kind address 0 n)
 
 -- ---- "another bus with that parent"
@@ -179,31 +181,35 @@ others_other (e ∷ ls) up bus =
 -- Of an accepted table, a listed bus that asks its parent and a kind.
 module _ (t : List ℕ) (bus kind address : ℕ) (a : table_refusal t ≡ 0) (l : is_listed (base_entries t) bus ≡ true) (h : kind ≤ space_kind_most)
     (p : says (extended_entries t) bus kind address ≡ Say.parent) (k : ℕ) where
-  through : {x : Seen} → seen t (parent_of t bus) kind address ≡ x
-      → seen t bus kind address ≡ unclaimed (claim_of t bus kind address) (silence_of t bus) (onward x)
+  through : {x : Seen} → seen t (parent_of t bus) kind address ≡ Ok x
+      → seen t bus kind address ≡ Ok (unclaimed (claim_of t bus kind address) (silence_of t bus) (onward x))
   unfolding leaves
-  through e = seen_says t bus kind address a l h ∙ rw (p, e)
+  through {x} e =
+      let same : seen_by t (parent_of t bus) kind address ≡ x =
+      (given_ok 0 x (sym (parent_answers t bus kind address a h p) ∙ e)).1
+      in
+      seen_says t bus kind address a l h ∙ rw (p, same)
 
   -- "when the parent answers yes, the answer is no if another bus with that parent declares or adds the address and doesn't take
   -- it away;
-  pub through_claimed : seen t (parent_of t bus) kind address ≡ Yes k → claim_of t bus kind address ≡ true → seen t bus kind address ≡ No (k + 1)
+  pub through_claimed : seen t (parent_of t bus) kind address ≡ Ok (Yes k) → claim_of t bus kind address ≡ true → seen t bus kind address ≡ Ok (No (k + 1))
   through_claimed e c = through e ∙ rw c
 
   -- undeclared if none does but some other such bus has neither 128 nor 130 entry and no subtractive bit;
-  pub through_silent : seen t (parent_of t bus) kind address ≡ Yes k → claim_of t bus kind address ≡ false → silence_of t bus ≡ true
-      → seen t bus kind address ≡ Undeclared (k + 1)
+  pub through_silent : seen t (parent_of t bus) kind address ≡ Ok (Yes k) → claim_of t bus kind address ≡ false → silence_of t bus ≡ true
+      → seen t bus kind address ≡ Ok (Undeclared (k + 1))
   through_silent e c u = through e ∙ rw (c, u)
 
   -- else yes."
-  pub through_yes : seen t (parent_of t bus) kind address ≡ Yes k → claim_of t bus kind address ≡ false → silence_of t bus ≡ false
-      → seen t bus kind address ≡ Yes (k + 1)
+  pub through_yes : seen t (parent_of t bus) kind address ≡ Ok (Yes k) → claim_of t bus kind address ≡ false → silence_of t bus ≡ false
+      → seen t bus kind address ≡ Ok (Yes (k + 1))
   through_yes e c u = through e ∙ rw (c, u)
 
   -- The parent's no and undeclared are taken over.
-  pub through_no : seen t (parent_of t bus) kind address ≡ No k → seen t bus kind address ≡ No (k + 1)
+  pub through_no : seen t (parent_of t bus) kind address ≡ Ok (No k) → seen t bus kind address ≡ Ok (No (k + 1))
   through_no e = through e
 
-  pub through_undeclared : seen t (parent_of t bus) kind address ≡ Undeclared k → seen t bus kind address ≡ Undeclared (k + 1)
+  pub through_undeclared : seen t (parent_of t bus) kind address ≡ Ok (Undeclared k) → seen t bus kind address ≡ Ok (Undeclared (k + 1))
   through_undeclared e = through e
 
 -- An answer's sort as a number, to tell them apart.
@@ -211,14 +217,12 @@ sort : Seen → ℕ
 sort (No k) = 0
 sort (Yes k) = 1
 sort (Undeclared k) = 2
-sort (Refused n) = 3
 
 claimed_sort : (silence : Bool) (x : Seen) → sort (unclaimed true silence x) ≡ 1 → ⊥
 unfolding sort
 claimed_sort silence (No k) e = omega arith
 claimed_sort silence (Yes k) e = omega arith
 claimed_sort silence (Undeclared k) e = omega arith
-claimed_sort silence (Refused n) e = omega arith
 
 never_climbed : (left : ℕ) (xs : List Entry) (bus kind address k : ℕ) → says xs bus kind address ≡ Say.parent
     → claim_beside xs (head bus (parents_of (links xs) bus)) bus kind address ≡ true
@@ -229,31 +233,29 @@ never_climbed (suc left) xs bus kind address k p c e =
     let up = head bus (parents_of (links xs) bus) in
     claimed_sort (silence_beside xs up bus) (climb left xs up kind address (k + 1)) (rw (p, c) at e)
 
-never_of : (n : ℕ) (x : Seen) → (sort x ≡ 1 → ⊥) → sort (seen_of n x) ≡ 1 → ⊥
+never_of : (n : ℕ) (x : Seen) {k : ℕ} → (sort x ≡ 1 → ⊥) → answered n x ≡ Ok (Yes k) → ⊥
 unfolding sort
-never_of zero x f e = f e
-never_of (suc n) x f e = omega arith
+never_of n x f e = f (sym (ap sort (given_ok n x (sym e)).1))
 
 -- "MPS 4.4.2 gives it only what nobody else there claims.": a bus with another beside it that claims the address never answers
 -- yes through its parent, of every table and question.
 pub never_through : (t : List ℕ) (bus kind address k : ℕ) → says (extended_entries t) bus kind address ≡ Say.parent
-    → claim_of t bus kind address ≡ true → seen t bus kind address ≡ Yes k → ⊥
+    → claim_of t bus kind address ≡ true → seen t bus kind address ≡ Ok (Yes k) → ⊥
 unfolding seen seen_by sort
 never_through t bus kind address k p c e =
     never_of (refusal (address_rules t bus kind)) _
-    (never_climbed (length (ids_of bus_type (base_entries t)) - 1) (extended_entries t) bus kind address 0 p c) (ap sort e)
+    (never_climbed (length (ids_of bus_type (base_entries t)) - 1) (extended_entries t) bus kind address 0 p c) e
 
 -- ---- What a bus claims by itself, and that it is silent, are answers of the query: with no link climbed
 
 -- What comes from a parent has climbed a link.
-beyond : (claim silence : Bool) (x z : Seen) → links_of z ≡ 0 → (sort z ≡ 3 → ⊥) → unclaimed claim silence (onward x) ≡ z → ⊥
+beyond : (claim silence : Bool) (x z : Seen) → links_in z ≡ 0 → unclaimed claim silence (onward x) ≡ z → ⊥
 unfolding sort
-beyond claim silence (No k) z l s e = omega (arith, ap links_of e)
-beyond true silence (Yes k) z l s e = omega (arith, ap links_of e)
-beyond false true (Yes k) z l s e = omega (arith, ap links_of e)
-beyond false false (Yes k) z l s e = omega (arith, ap links_of e)
-beyond claim silence (Undeclared k) z l s e = omega (arith, ap links_of e)
-beyond claim silence (Refused n) z l s e = s (sym (ap sort e))
+beyond claim silence (No k) z l e = omega (arith, ap links_in e)
+beyond true silence (Yes k) z l e = omega (arith, ap links_in e)
+beyond false true (Yes k) z l e = omega (arith, ap links_in e)
+beyond false false (Yes k) z l e = omega (arith, ap links_in e)
+beyond claim silence (Undeclared k) z l e = omega (arith, ap links_in e)
 
 itself_yes : (s : Say) (x : Seen) → (x ≡ Yes 0 → ⊥) → (answer s 0 x ≡ Yes 0) ↔ (is_yes s ≡ true)
 unfolding sort
@@ -271,19 +273,27 @@ itself_undeclared Say.undeclared x n = (λ e. refl, λ f. refl)
 
 -- Of an accepted table, a listed bus and a kind.
 module _ (t : List ℕ) (bus kind address : ℕ) (a : table_refusal t ≡ 0) (l : is_listed (base_entries t) bus ≡ true) (h : kind ≤ space_kind_most) where
-  from_parent : (z : Seen) → links_of z ≡ 0 → (sort z ≡ 3 → ⊥)
-      → leaves (extended_entries t) (parent_of t bus) bus kind address (onward (seen t (parent_of t bus) kind address)) ≡ z → ⊥
+  from_parent : (z : Seen) → links_in z ≡ 0
+      → leaves (extended_entries t) (parent_of t bus) bus kind address (onward (seen_by t (parent_of t bus) kind address)) ≡ z → ⊥
   unfolding leaves
-  from_parent = beyond (claim_of t bus kind address) (silence_of t bus) (seen t (parent_of t bus) kind address)
+  from_parent = beyond (claim_of t bus kind address) (silence_of t bus) (seen_by t (parent_of t bus) kind address)
 
-  pub claims_itself : (seen t bus kind address ≡ Yes 0) ↔ (claims (extended_entries t) kind address bus ≡ true)
+  -- What is answered is that answer.
+  answer_alone : {x y : Seen} → seen t bus kind address ≡ Ok x → (seen t bus kind address ≡ Ok y) ↔ (x ≡ y)
+  answer_alone {x} {y} e = (λ f. sym (given_ok 0 x (sym f ∙ e)).1, λ f. e ∙ ap Ok f)
+
+  pub claims_itself : (seen t bus kind address ≡ Ok (Yes 0)) ↔ (claims (extended_entries t) kind address bus ≡ true)
   unfolding sort
   claims_itself =
-      rw (seen_says t bus kind address a l h, ← claims_yes kind address bus (extended_entries t))
-      (itself_yes (says (extended_entries t) bus kind address) _ (from_parent (Yes 0) refl (λ q. omega arith)))
+      let alone = answer_alone (seen_says t bus kind address a l h) in
+      let own = itself_yes (says (extended_entries t) bus kind address) _ (from_parent (Yes 0) refl) in
+      let claimed = claims_yes kind address bus (extended_entries t) in
+      (λ e. sym claimed ∙ own.0 (alone.0 e), λ e. alone.1 (own.1 (claimed ∙ e)))
 
-  pub silent_itself : (seen t bus kind address ≡ Undeclared 0) ↔ (silent (extended_entries t) bus ≡ true)
+  pub silent_itself : (seen t bus kind address ≡ Ok (Undeclared 0)) ↔ (silent (extended_entries t) bus ≡ true)
   unfolding sort
   silent_itself =
-      rw (seen_says t bus kind address a l h, ← silent_undeclared kind address bus (extended_entries t))
-      (itself_undeclared (says (extended_entries t) bus kind address) _ (from_parent (Undeclared 0) refl (λ q. omega arith)))
+      let alone = answer_alone (seen_says t bus kind address a l h) in
+      let own = itself_undeclared (says (extended_entries t) bus kind address) _ (from_parent (Undeclared 0) refl) in
+      let quiet = silent_undeclared kind address bus (extended_entries t) in
+      (λ e. sym quiet ∙ own.0 (alone.0 e), λ e. alone.1 (own.1 (quiet ∙ e)))

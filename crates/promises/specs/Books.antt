@@ -1,18 +1,18 @@
 -- What ask 3 of document 02 says of a book over many calls: the saves and restores that were taken, and the rows that they add.
-use Rattle.std.specs.Prelude.{◌+◌, ◌<◌, List, [], ◌∷◌, ◌++◌}
+use Rattle.std.specs.Prelude.{◌+◌, ◌<◌, List, [], ◌∷◌, ◌++◌, Result, Ok, Err}
 use Rattle.mps.specs.Book.{Row}
 use Rattle.mps.specs.History.{edition_body}
 use Rattle.mps.specs.Saving.{Ask, save, restore}
 use Rattle.mps.specs.declared.Booked.{Booked}
-use Rattle.mps.specs.declared.Booked.TheVariants.{Book, Refused}
+use Rattle.mps.specs.declared.refusals.Refusal.{Refusal}
 use Rattle.laws.proofs.Small.{Bytes}
 
 -- The ones of a run that were taken, in order: those that were answered with a book's rows and bytes.
-unfoldable pub taken : List Ask → List Booked → List Ask
+unfoldable pub taken : List Ask → List (Result Booked Refusal) → List Ask
 taken [] answers = []
 taken (ask ∷ asks) [] = []
-taken (ask ∷ asks) (Book rows size ∷ answers) = ask ∷ taken asks answers
-taken (ask ∷ asks) (Refused n ∷ answers) = taken asks answers
+taken (ask ∷ asks) (Ok book ∷ answers) = ask ∷ taken asks answers
+taken (ask ∷ asks) (Err refusal ∷ answers) = taken asks answers
 
 -- The row that one adds behind others: the next edition, with the body that was given or with the old one's.
 unfoldable pub row_for : List Row → Ask → Row

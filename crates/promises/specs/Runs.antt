@@ -1,20 +1,18 @@
 -- What demand 3 speaks of: the accepted edits of a run, entries with edits put in, and the parts that a table is written
 -- afresh from.
-use Rattle.std.specs.Prelude.{List, [], ◌∷◌, ℕ, set}
+use Rattle.std.specs.Prelude.{List, [], ◌∷◌, ℕ, set, Result, Ok, Err}
 use Rattle.mps.specs.Words.{joined}
 use Rattle.mps.specs.Layout.{Entry, extended_part}
 use Rattle.mps.specs.Writing.{Parts, fields_of}
 use Rattle.mps.specs.Edits.{Edit}
-use Rattle.mps.specs.declared.Edited.{Edited}
-use Rattle.mps.specs.declared.Edited.TheVariants.{Done, Refused, Inner}
+use Rattle.mps.specs.declared.refusals.EditRefusal.{EditRefusal}
 
 -- The accepted edits of a run, in order: those that were answered as done.
-unfoldable pub accepted : List Edit → List Edited → List Edit
+unfoldable pub accepted : List Edit → List (Result (Unit {0}) EditRefusal) → List Edit
 accepted [] rs = []
 accepted (e ∷ es) [] = []
-accepted (e ∷ es) (Done ∷ rs) = e ∷ accepted es rs
-accepted (e ∷ es) (Refused n ∷ rs) = accepted es rs
-accepted (e ∷ es) (Inner n ∷ rs) = accepted es rs
+accepted (e ∷ es) (Ok _ ∷ rs) = e ∷ accepted es rs
+accepted (e ∷ es) (Err refusal ∷ rs) = accepted es rs
 
 -- Entries with edits put in, in order.
 unfoldable pub put_in : List Entry → List Edit → List Entry

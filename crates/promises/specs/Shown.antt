@@ -1,7 +1,7 @@
 -- What a listing tells. Demand 2: "The listing, the routes and the addresses seen by a bus are those the table declares".
 -- A line is made of fields, each with the value that it shows; here are the fields of every line, and how lines, words and
 -- digits are read again. Document 01, "The bench board" from "Its listing" on.
-use Rattle.std.specs.Prelude.{ℕ, suc, ◌+◌, ◌-◌, ◌*◌, ◌^◌, ◌≡◌, Bool, true, cond, not, ◌&&◌, List, [], ◌∷◌, ◌++◌, length, get_or, replicate, ltb, eqb}
+use Rattle.std.specs.Prelude.{ℕ, suc, ◌+◌, ◌-◌, ◌*◌, ◌^◌, ◌≡◌, Bool, true, cond, not, ◌&&◌, List, [], ◌∷◌, ◌++◌, length, get_or, replicate, ltb, eqb, Result, Ok, Err}
 use Rattle.mps.specs.Words.{text, flag, same, part, every, none, each}
 use Rattle.mps.specs.Buses.{is_bus_name}
 use Rattle.mps.specs.Layout.{Entry, type, of_type, processor_type, bus_type, io_apic_type, io_interrupt_type, mapping_type, hierarchy_type, modifier_type}
@@ -11,7 +11,9 @@ use Rattle.mps.specs.Layout.{interrupt_type, source_bus, source_irq, polarity, t
 use Rattle.mps.specs.Layout.{extended_bus, space_kind, space_base, space_length, parent_bus, subtractive_bit, takes_bit, range_list}
 use Rattle.mps.specs.Listing.{decimal, hex, line, unpadded}
 use Rattle.mps.specs.declared.Held.{Held}
-use Rattle.mps.specs.declared.Held.TheVariants.{Default, Table, Refused}
+use Rattle.mps.specs.declared.Held.TheVariants.{Default, Table}
+use Rattle.mps.specs.declared.refusals.Refusal.{Refusal}
+use Rattle.mps.specs.Reasons.{number_of_refusal}
 
 -- ---- Reading again
 
@@ -186,8 +188,8 @@ table_fields pointer imcr at t =
     ∷ (each base_fields (base_entries t) ++ (each extended_fields (extended_entries t) ++ ((word (text "end") ∷ []) ∷ [])))
 
 -- The lines of what the dump reader answers of a dump: "A refusal or default is the only line."
-unfoldable pub lines_told : List ℕ → Held → List (List Field)
+unfoldable pub lines_told : List ℕ → Result Held Refusal → List (List Field)
 unfolding text
-lines_told d (Default n imcr) = (word (text "default") ∷ number n ∷ word (text "imcr") ∷ number imcr ∷ []) ∷ []
-lines_told d (Table pointer imcr at start end) = table_fields pointer imcr at (part start end d)
-lines_told d (Refused n) = (word (text "refused") ∷ number n ∷ []) ∷ []
+lines_told d (Ok (Default n imcr)) = (word (text "default") ∷ number n ∷ word (text "imcr") ∷ number imcr ∷ []) ∷ []
+lines_told d (Ok (Table pointer imcr at start end)) = table_fields pointer imcr at (part start end d)
+lines_told d (Err r) = (word (text "refused") ∷ number (number_of_refusal r) ∷ []) ∷ []

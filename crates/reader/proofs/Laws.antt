@@ -1,6 +1,6 @@
 -- The length of the entry at a place, by the ways out of the code. Assumes nothing.
 use Prim.Native.Nat.{ℕ, zero, suc, ◌+◌, ◌-◌, ◌≤◌, ◌<◌}
-use mathlib.Core.Path.{◌≡◌, refl, ap, ◌∙◌}
+use mathlib.Core.Path.{◌≡◌, refl, sym, ap, ◌∙◌}
 use mathlib.Core.Bool.{Bool, true, false, cond, ◌||◌, ◌&&◌, or-true}
 use mathlib.Core.List.{List, [], ◌∷◌}
 use native.Mathlib.Omega.{arith}
@@ -8,13 +8,30 @@ use native.Mathlib.Nat.{add-zero}
 use lib.ListN.{length, get_or, drop}
 use lib.Seq.{get_or-drop}
 use lib.Dec.{leb, ltb}
-use borrow.Author.Tests.{lt-ltb, le-ltb, le-leb, lt-leb, leb-true, ltb-true, ltb-false}
+use borrow.Author.Tests.{lt-ltb, le-ltb, le-leb, lt-leb, leb-true, leb-false, ltb-true, ltb-false}
 use Rattle.mps.specs.Layout.{type, last_base_type, first_extended_type, least_length, header_size, base_entry_length, extended_entry_length}
 use Rattle.mps.specs.Reader.{read_base_end, read_extended_end, base_step, extended_step, whole, size_at, next_place, found}
-use Rattle.mps.specs.declared.Found.TheVariants.{Whole, Nothing}
+use Rattle.std.specs.Prelude.{Option, Some, None}
+use Rattle.std.specs.Bool.{then_some}
+use Rattle.std.proofs.lemmas.Option.{none-some, same_Some}
+use Rattle.mps.specs.Answers.{found_of}
 use Rattle.laws.proofs.Tests.{whether}
 use Rattle.laws.proofs.Small.{Bytes, bytes_drop}
 use Rattle.entries.proofs.Laws.{size_bounds}
+
+-- ---- A length or none
+
+pub some_found : (n : ℕ) → 0 < n → Some n ≡ found_of n
+some_found zero h = absurd (omega (arith, h))
+some_found (suc n) h = refl
+
+pub none_given : (n : ℕ) → None ≡ found_of n → 0 ≡ n
+none_given zero e = refl
+none_given (suc n) e = absurd (none-some (suc n) e)
+
+pub some_given : (n : ℕ) {m : ℕ} → Some m ≡ found_of n → (0 < m) × (m ≡ n)
+some_given zero {m} e = absurd (none-some m (sym e))
+some_given (suc n) {m} e = let q = same_Some m (suc n) e in (omega (arith, q), q)
 
 -- ---- An entry before an end
 
@@ -24,6 +41,13 @@ module _ (place size end : ℕ) where
 
   pub whole_cut : place < end → end - place < size → 0 ≡ whole place size end
   whole_cut h k = rw (lt-leb (place + size) end (omega arith))
+
+  -- As the code asks it.
+  pub whole_told : place < end → 0 < size → then_some (leb size (end - place)) size ≡ found_of (whole place size end)
+  whole_told h z =
+      whether (leb size (end - place))
+      (λ y. rw y (some_found size z ∙ ap found_of (whole_fits h (leb-true size (end - place) y))))
+      (λ n. rw n (ap found_of (whole_cut h (leb-false size (end - place) n))))
 
 -- ---- Steps
 
@@ -63,6 +87,12 @@ module _ (t : List ℕ) (place : ℕ) where
     pub extended_size : least_length ≤ n → n ≡ extended_step (drop place t)
     unfolding extended_step
     extended_size k = rw (type_at, byte_at t place 1, ← e, le-leb first_extended_type (get_or t place 0) h, le-leb least_length n k)
+
+    pub extended_told : then_some (leb least_length n) n ≡ found_of (extended_step (drop place t))
+    extended_told =
+        whether (leb least_length n)
+        (λ y. let k = leb-true least_length n y in rw y (some_found n (omega (arith, k)) ∙ ap found_of (extended_size k)))
+        (λ f. rw f (ap found_of (extended_short (leb-false least_length n f))))
 
 -- ---- The length at a place
 
@@ -164,11 +194,24 @@ module _ (t : List ℕ) (place : ℕ) where
 
 -- ---- The answer
 
-pub found_none : (t : List ℕ) (place : ℕ) {n : ℕ} → n ≡ size_at t place → n ≡ 0 → Nothing ≡ found t place
-unfolding found
-found_none t place e z = rw (← e, z)
+module _ (t : List ℕ) (place : ℕ) where
+  pub found_none : {n : ℕ} → n ≡ size_at t place → n ≡ 0 → None ≡ found t place
+  unfolding found
+  found_none e z = rw (← e, z)
 
-pub found_some : (t : List ℕ) (place n : ℕ) → n ≡ size_at t place → (n ≡ 0 → ⊥) → Whole n ≡ found t place
-unfolding found
-found_some t place zero e z = absurd (z refl)
-found_some t place (suc n) e z = rw (← e)
+  pub found_some : (n : ℕ) → n ≡ size_at t place → (n ≡ 0 → ⊥) → Some n ≡ found t place
+  unfolding found
+  found_some n e z = some_found n (omega (arith, z)) ∙ ap found_of e
+
+  pub found_whole : {n : ℕ} {r : Option ℕ} → r ≡ found_of n → n ≡ size_at t place → r ≡ found t place
+  unfolding found
+  found_whole e f = e ∙ ap found_of f
+
+  module _ {r : Option ℕ} (e : r ≡ found t place) where
+    pub given_at : {n : ℕ} → r ≡ Some n → n ≡ size_at t place
+    unfolding found
+    given_at i = (some_given (size_at t place) (sym i ∙ e)).1
+
+    pub stays_at : r ≡ None → 0 ≡ size_at t place
+    unfolding found
+    stays_at i = none_given (size_at t place) (sym i ∙ e)

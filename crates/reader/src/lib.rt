@@ -12,9 +12,10 @@
 
 ghost use Rattle.std.specs.Prelude.{◌≡◌, ◌<◌, length, drop};
 ghost use Rattle.reader.specs.Reading.{opened, passed};
+ghost use Rattle.mps.specs.Answers.{found_of};
 ghost use Rattle.mps.specs.Reader.{read_base_end, read_extended_end, base_step, extended_step, whole as whole_size, size_at, next_place, found};
 
-use mps::{Found, layout};
+use mps::layout;
 
 // ---- A reader: the lent table, and any place
 
@@ -30,11 +31,11 @@ pub fn open<'a>(table: &'a [u8], place: usize) -> Reader<'a>
     Reader { table, place }
 }
 
-// The entry at its place.
-pub fn here<'a>(r: Reader<'a>) -> Found
+// The length of the entry at its place.
+pub fn here<'a>(r: Reader<'a>) -> Option<usize>
     ensures { result ≡ found r.entry.table.now r.entry.place }
 {
-    found_at(r.table, r.place)
+    size(r.table, r.place)
 }
 
 // The reader behind that entry; where none stands, it stays.
@@ -49,7 +50,7 @@ pub fn next<'a>(r: Reader<'a>) -> Reader<'a>
 
 // ---- A table and a place: who calls these has no reader
 
-pub fn entry(t: &[u8], place: usize) -> Found
+pub fn entry(t: &[u8], place: usize) -> Option<usize>
     ensures { result ≡ found t.now place }
 {
     here(open(t, place))
@@ -64,31 +65,21 @@ pub fn after(t: &[u8], place: usize) -> usize
 
 // ---- The cursor
 
-fn found_at(t: &[u8], place: usize) -> Found
-    ensures { result ≡ found t.now place }
-{
-    let n = size(t, place);
-    if n == 0 {
-        return Found::Nothing;
-    }
-    Found::Whole(n)
-}
-
 fn behind(t: &[u8], place: usize) -> usize
     ensures { result ≡ next_place t.now place }
 {
-    place + size(t, place)
+    match size(t, place) {
+        Some(n) => place + n,
+        None => place,
+    }
 }
 
-// The entry's length, 0 where none stands.
-fn size(t: &[u8], place: usize) -> usize
-    ensures { result ≡ size_at t.now place }
+// The entry's length.
+fn size(t: &[u8], place: usize) -> Option<usize>
+    ensures { result ≡ found t.now place }
 {
-    if t.len() < layout::HEADER_SIZE {
-        return 0;
-    }
-    if place < layout::HEADER_SIZE {
-        return 0;
+    if t.len() < layout::HEADER_SIZE || place < layout::HEADER_SIZE {
+        return None;
     }
     let base = base_end(t);
     if place < base {
@@ -96,58 +87,56 @@ fn size(t: &[u8], place: usize) -> usize
     }
     let end = extended_end(t);
     if place < end {
-        return whole(place, extended_step(t, place), end);
+        return whole(place, extended_step(t, place)?, end);
     }
-    0
+    None
 }
 
 fn base_end(t: &[u8]) -> usize
     ensures { result ≡ read_base_end t.now }
 {
-    let base = lengths::base(t) as usize;
-    if t.len() < base { t.len() } else { base }
+    t.len().min(usize::from(lengths::base(t)))
 }
 
 fn extended_end(t: &[u8]) -> usize
     ensures { result ≡ read_extended_end t.now }
 {
-    let base = lengths::base(t) as usize;
-    let end = base + lengths::extended(t) as usize;
-    if t.len() < end { t.len() } else { end }
+    let end = usize::from(lengths::base(t)) + usize::from(lengths::extended(t));
+    t.len().min(end)
 }
 
-// The length of an entry that ends no later than the part that it stands in, else 0.
-fn whole(place: usize, size: usize, end: usize) -> usize
-    requires { place < end }
-    ensures { result ≡ whole_size place size end }
+// The length of an entry that ends no later than the part that it stands in.
+fn whole(place: usize, size: usize, end: usize) -> Option<usize>
+    requires { (place < end) × (0 < size) }
+    ensures { result ≡ found_of (whole_size place size end) }
 {
-    if size <= end - place { size } else { 0 }
+    (size <= end - place).then_some(size)
 }
 
-// The length of a base entry that stands whole before the base end, else 0. Each type has its own way out, so that who walks
-// need not wait for one entry's type to know where the next begins.
-fn base_size(t: &[u8], place: usize, end: usize) -> usize
+// The length of a base entry that stands whole before the base end. Each type has its own way out, so that who walks need
+// not wait for one entry's type to know where the next begins.
+fn base_size(t: &[u8], place: usize, end: usize) -> Option<usize>
     requires { (place < length t.now) × (place < end) }
-    ensures { result ≡ whole_size place (base_step (drop place t.now)) end }
+    ensures { result ≡ found_of (whole_size place (base_step (drop place t.now)) end) }
 {
     let kind = t[place];
     if kind == layout::PROCESSOR_TYPE {
         return whole(place, layout::PROCESSOR_SIZE, end);
     }
     if layout::LOCAL_INTERRUPT_TYPE < kind {
-        return 0;
+        return None;
     }
     whole(place, layout::ENTRY_SIZE, end)
 }
 
 // A length byte past the buffer's end reads as 0.
-fn extended_step(t: &[u8], place: usize) -> usize
+fn extended_step(t: &[u8], place: usize) -> Option<usize>
     requires { place < length t.now }
-    ensures { result ≡ extended_step (drop place t.now) }
+    ensures { result ≡ found_of (extended_step (drop place t.now)) }
 {
     if t[place] < layout::MAPPING_TYPE {
-        return 0;
+        return None;
     }
-    let n = numbers::byte(t, place + layout::ENTRY_LENGTH) as usize;
-    if n < layout::LEAST_LENGTH { 0 } else { n }
+    let n = usize::from(numbers::byte(t, place + layout::ENTRY_LENGTH));
+    (layout::LEAST_LENGTH <= n).then_some(n)
 }

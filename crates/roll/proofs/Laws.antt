@@ -72,11 +72,11 @@ enrolled_on k n ids size x h =
 -- ---- A call, one entry at a time
 
 module _ (c : Call) (roll : List ℕ) (e : Entry) (es : List Entry) where
-  called_stop : wrong_one c roll e ≡ true → called c roll (e ∷ es) ≡ record { wrong = true; roll = roll }
+  pub called_stop : wrong_one c roll e ≡ true → called c roll (e ∷ es) ≡ record { wrong = true; roll = roll }
   unfolding called
   called_stop w = rw (w, called)
 
-  called_next : wrong_one c roll e ≡ false → called c roll (e ∷ es) ≡ called c (with_marks (c.marks e) roll (id_of e)) es
+  pub called_next : wrong_one c roll e ≡ false → called c roll (e ∷ es) ≡ called c (with_marks (c.marks e) roll (id_of e)) es
   unfolding called
   called_next w = rw (w, called)
 

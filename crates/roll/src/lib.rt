@@ -25,32 +25,32 @@ pub const IO_TAKEN: u8 = 4; // an enabled I/O APIC has it, or none may
 
 // The numbers that have one of them, or two.
 
-pub const PROCESSOR_MARK: u8 = 1;
+pub const PROCESSOR_MARK: u8 = 1 << PROCESSOR;
 
-pub const TAKEN_MARK: u8 = 2;
+pub const TAKEN_MARK: u8 = 1 << TAKEN;
 
-pub const IO_APIC_MARK: u8 = 4;
+pub const IO_APIC_MARK: u8 = 1 << IO_APIC;
 
-pub const BUS_MARK: u8 = 8;
+pub const BUS_MARK: u8 = 1 << BUS;
 
-pub const IO_TAKEN_MARK: u8 = 16;
+pub const IO_TAKEN_MARK: u8 = 1 << IO_TAKEN;
 
-pub const APIC_MARKS: u8 = 5; // of a processor and of an I/O APIC
+pub const APIC_MARKS: u8 = PROCESSOR_MARK | IO_APIC_MARK; // of a processor and of an I/O APIC
 
-pub const TAKEN_MARKS: u8 = 18; // of enabled ones of both kinds
+pub const TAKEN_MARKS: u8 = TAKEN_MARK | IO_TAKEN_MARK; // of enabled ones of both kinds
 
 // Whether a bit is set at an ID. There are eight bits: from 8 on they are counted anew.
+#[tactic(auto, unfolding(crate::specs::Roll::marked, mps::specs::Words::bit))]
 pub fn has(roll: &[u8; 256], id: u8, k: u8) -> bool
     ensures { result ≡ marked (k % 8) roll.now id }
 {
-    let at = numbers::wide(id) as usize;
-    (roll[at] >> (k % 8)) % 2 == 1
+    (roll[usize::from(id)] >> (k % 8)) % 2 == 1
 }
 
 // Sets the bits of a number at an ID.
+#[tactic(auto, unfolding(crate::specs::Roll::with_marks))]
 pub fn put(roll: &mut [u8; 256], id: u8, marks: u8)
     ensures { roll.new ≡ with_marks marks roll.old id }
 {
-    let at = numbers::wide(id) as usize;
-    roll[at] = roll[at] | marks;
+    roll[usize::from(id)] |= marks;
 }

@@ -92,7 +92,7 @@ module _ (s : List ℕ) (place : ℕ) where
   length_there : base_entry_length there ≡ size_of (get_or s place 0)
   length_there = length_by there (get_or s place 0) (first_there s place)
 
-  type_there : (n : ℕ) → 0 < n → type (take n there) ≡ get_or s place 0
+  pub type_there : (n : ℕ) → 0 < n → type (take n there) ≡ get_or s place 0
   type_there n h = get_or-take n there 0 0 h ∙ first_there s place
 
   type_piece : type piece ≡ get_or s place 0

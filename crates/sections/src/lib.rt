@@ -33,14 +33,11 @@ fn run(s: &[u8], at: usize, kind: u8) -> usize
     ensures { Ran base_own kind base_entry_length s.now at result }
 {
     let size = runs::size_of(kind);
-    let mut place = at;
-    while size <= s.len() - place {
-        if s[place] != kind {
-            return place;
-        }
-        place += size;
-    }
-    place
+    at + size
+        * s[at..]
+            .chunks_exact(size)
+            .take_while(|e| e[0] == kind)
+            .count()
 }
 
 // What is wrong with the entry at a place where no run goes on: behind all five types each entry is faulty.

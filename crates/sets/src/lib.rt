@@ -11,13 +11,15 @@
 ghost use Rattle.std.specs.Prelude.{◌≡◌, length};
 ghost use Rattle.sets.specs.Sets.{holds, with_number, members, lowest_out};
 
+#[tactic(auto, using(crate::proofs::Words::shift_put))]
 pub fn put(set: &mut [u64; 4], n: u8)
     ensures { set.new ≡ with_number set.old n }
 {
     let k = (n / 64) as usize;
-    set[k] = set[k] | (1 << (n % 64));
+    set[k] |= 1 << (n % 64);
 }
 
+#[tactic(auto, unfolding(crate::specs::Sets::holds, mps::specs::Words::bit))]
 pub fn contains(set: &[u64; 4], n: u8) -> bool
     ensures { result ≡ holds set.now n }
 {
@@ -25,15 +27,13 @@ pub fn contains(set: &[u64; 4], n: u8) -> bool
 }
 
 // How many numbers are in a set.
+#[tactic(auto, using(crate::proofs::Words::counts_first))]
 pub fn count(set: &[u64; 4]) -> usize
     ensures { result ≡ length (members set.now) }
 {
-    let words: &[u64] = set;
     let mut n = 0;
-    let mut k = 0;
-    while k < words.len() {
-        n += u64::count_ones(words[k]) as usize;
-        k += 1;
+    for word in set {
+        n += word.count_ones() as usize;
     }
     n
 }
@@ -42,15 +42,11 @@ pub fn count(set: &[u64; 4]) -> usize
 pub fn lowest(a: &[u64; 4], b: &[u64; 4]) -> usize
     ensures { result ≡ lowest_out a.now b.now }
 {
-    let first: &[u64] = a;
-    let second: &[u64] = b;
-    let mut at = 0;
-    while at < first.len() {
-        let free = !(first[at] | second[at]);
+    for at in 0..a.len() {
+        let free = !(a[at] | b[at]);
         if free != 0 {
-            return at * 64 + u64::trailing_zeros(free) as usize;
+            return at * 64 + free.trailing_zeros() as usize;
         }
-        at += 1;
     }
-    at * 64
+    256
 }

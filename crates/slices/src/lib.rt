@@ -10,68 +10,42 @@ ghost use Rattle.std.proofs.lemmas.List.Edits.{sets};
 ghost use Rattle.mps.specs.Words.{same as same_bytes, part};
 
 // Whether two slices hold the same bytes: as many of them, and equal at each place.
+#[tactic(auto, using(crate::proofs::Laws::same_compared))]
 pub fn same(a: &[u8], b: &[u8]) -> bool
     ensures { result ≡ same_bytes a.now b.now }
 {
-    if a.len() != b.len() {
-        return false;
-    }
-    let mut i = 0;
-    while i < a.len() {
-        if a[i] != b[i] {
-            return false;
-        }
-        i += 1;
-    }
-    true
+    a == b
 }
 
 // Stores the bytes of `s` in `out` from `at` on. Bytes that would come to stand past its end are not stored, so that
 // no caller has to show that they fit.
+#[tactic(auto, using(laws::proofs::Stores::sets_past))]
 pub fn copy(out: &mut [u8], at: usize, s: &[u8])
     ensures { out.new ≡ sets out.old at s.now }
 {
-    // `at + i` could overflow where nothing fits; a place of its own that stops at the end cannot.
-    let mut place = at;
-    let mut i = 0;
-    while i < s.len() {
-        if out.len() <= place {
-            return;
-        }
-        out[place] = s[i];
-        place += 1;
-        i += 1;
+    if at < out.len() {
+        let n = s.len().min(out.len() - at);
+        out[at..at + n].copy_from_slice(&s[..n]);
     }
 }
 
 // Makes the first n bytes 0, all of them where there are fewer.
+#[tactic(auto, using(crate::proofs::Laws::fill_stored))]
 pub fn clear(out: &mut [u8], n: usize)
     ensures { out.new ≡ sets out.old 0 (replicate n 0) }
 {
-    let mut k = 0;
-    while k < n {
-        if out.len() <= k {
-            return;
-        }
-        out[k] = 0;
-        k += 1;
-    }
+    let n = n.min(out.len());
+    out[..n].fill(0);
 }
 
 // Moves the bytes from one place up to another by so many places, the last one first, so that they may be moved by less than
 // their number. What would come to stand past the end is not stored.
+#[tactic(auto, using(crate::proofs::Laws::raise_stored, crate::proofs::Laws::raise_none))]
 pub fn raise(s: &mut [u8], from: usize, to: usize, by: usize)
     ensures { s.new ≡ sets s.old (from + by) (part from to s.old) }
 {
-    if s.len() <= by {
-        return;
-    }
-    let mut i = s.len() - by;
-    if to < i {
-        i = to;
-    }
-    while from < i {
-        i -= 1;
-        s[i + by] = s[i];
+    let end = to.min(s.len().saturating_sub(by));
+    if from < end {
+        s.copy_within(from..end, from + by);
     }
 }

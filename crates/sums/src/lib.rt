@@ -7,21 +7,21 @@
 ghost use Rattle.std.specs.Prelude.{◌≡◌};
 ghost use Rattle.mps.specs.Sums.{sum256, to_store};
 
+#[tactic(auto, using(crate::proofs::Laws::total_at, crate::proofs::Laws::total_done), unfolding(mps::specs::Sums::sum256))]
 pub fn sum(s: &[u8]) -> u8
     ensures { result ≡ sum256 s.now }
 {
     let mut acc: u8 = 0;
-    let mut i = 0;
-    while i < s.len() {
-        acc = std::num::wrapping_add_u8(acc, s[i]);
-        i += 1;
+    for b in s {
+        acc = acc.wrapping_add(*b);
     }
     acc
 }
 
 // The byte to store beside bytes whose sum is x.
+#[tactic(auto, unfolding(mps::specs::Sums::to_store))]
 pub fn to_store(x: u8) -> u8
     ensures { result ≡ to_store x }
 {
-    std::num::wrapping_sub_u8(0, x)
+    0u8.wrapping_sub(x)
 }

@@ -10,18 +10,14 @@ const NAMES: [[u8; 6]; 18] = [
 ];
 
 // Whether some bytes are one of the names, its blanks with it.
+#[tactic(auto, using(laws::proofs::Lists::any_done), unfolding(mps::specs::Buses::bus_names, mps::specs::Buses::is_bus_name, mps::specs::Words::text))]
 pub fn is_bus_name(name: &[u8]) -> bool
     ensures { result ≡ is_bus_name name.now }
 {
-    // Once: a constant that is indexed is laid out anew each time.
-    let names = NAMES;
-    let mut k = 0;
-    while k < 18 {
-        let row = names[k];
-        if slices::same(name, &row) {
+    for row in &NAMES {
+        if slices::same(name, row) {
             return true;
         }
-        k += 1;
     }
     false
 }

@@ -75,6 +75,5 @@ const RANGES: [u8; 1024] = *b"\
 pub fn ranges(address: u64) -> u8
     ensures { result ≡ ranges_at address }
 {
-    let place = (address % 1024) as usize;
-    RANGES[place]
+    RANGES[(address % 1024) as usize]
 }

@@ -1,19 +1,17 @@
 -- How long the words of a line are. Assumes nothing.
-use Prim.Native.Nat.{ℕ, zero, suc, ◌+◌, ◌/◌, ◌≤◌, ◌<◌}
-use mathlib.Core.Path.{◌≡◌, refl}
+use Prim.Native.Nat.{ℕ, zero, suc, ◌+◌, ◌/◌, ◌≤◌}
+use mathlib.Core.Path.{◌≡◌, refl, ◌∙◌}
+use Rattle.std.specs.List.{fold, count_by}
 use mathlib.Core.Bool.{Bool, true, false, cond}
 use mathlib.Core.List.{List, [], ◌∷◌}
 use native.Mathlib.Omega.{arith}
-use native.Mathlib.Numerals.{add-one}
-use lib.ListN.{length, get_or, drop, drop_of_length-le, length-append}
-use lib.Seq.{drop-cons}
+use lib.ListN.{length, length-append}
 use lib.Dec.{ltb, leb}
-use borrow.Author.Tests.{ltb-true, ltb-false, le-leb, lt-leb, eq-eqb, ne_eqb}
+use borrow.Author.Tests.{ltb-true, ltb-false, le-leb, lt-leb}
 use Rattle.mps.specs.Words.{keep, flag, each}
 use Rattle.mps.specs.Sums.{total}
 use Rattle.mps.specs.Listing.{digits, decimal_digit, hex_digit, decimal_width, decimal, hex, not_space, unpadded, line}
 use Rattle.laws.proofs.Tests.{whether}
-use Rattle.laws.proofs.Lists.{keep_in, keep_out}
 use Rattle.text.specs.Text.{ended}
 
 -- ---- How long a word is
@@ -68,22 +66,18 @@ unfolding line total each
 length_line w [] = omega (arith, length-append w (10 ∷ []))
 length_line w (n ∷ ws) = omega (arith, length-append w (32 ∷ line n ws), length_line n ws)
 
--- ---- Names, from place i on: nothing is left, a byte of the name stands there, or padding
+-- ---- The bytes of a name that are no padding, counted
 
-module _ (s : List ℕ) (i : ℕ) where
-  pub unpadded_done : length s ≤ i → unpadded (drop i s) ≡ []
-  unfolding unpadded keep
-  unpadded_done h = rw drop_of_length-le
+counted : (s : List ℕ) (n : ℕ) → fold (λ (a x : ℕ). a + cond (not_space x) 1 0) n s ≡ n + length (unpadded s)
+unfolding unpadded keep
+counted [] n = omega arith
+counted (x ∷ s) n =
+    whether (not_space x)
+    (λ e. rw (e, keep) (counted s (n + 1) ∙ omega arith))
+    (λ e. rw (e, keep) (counted s (n + 0) ∙ omega arith))
 
-  pub unpadded_byte : i < length s → (get_or s i 0 ≡ 32 → ⊥) → unpadded (drop i s) ≡ get_or s i 0 ∷ unpadded (drop (i + 1) s)
-  unfolding unpadded
-  unpadded_byte h e =
-      rw (add-one i, drop-cons s i 0 h) (keep_in not_space (get_or s i 0) (drop (suc i) s) (rw (ne_eqb _ _ e)))
-
-  pub unpadded_space : i < length s → get_or s i 0 ≡ 32 → unpadded (drop i s) ≡ unpadded (drop (i + 1) s)
-  unfolding unpadded
-  unpadded_space h e =
-      rw (add-one i, drop-cons s i 0 h) (keep_out not_space (get_or s i 0) (drop (suc i) s) (rw (eq-eqb _ _ e)))
+pub kept_count : (s : List ℕ) (r : ℕ) → r ≡ count_by not_space s → r ≡ length (unpadded s)
+kept_count s r e = e ∙ counted s 0 ∙ omega arith
 
 -- ---- The width of a number
 

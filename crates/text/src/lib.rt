@@ -20,7 +20,7 @@ pub const LINE_END: u8 = 10;
 fn reached(x: u32, bound: u32) -> usize
     ensures { (result ≡ flag (leb bound x)) × (result ≤ 1) }
 {
-    if x < bound { 0 } else { 1 }
+    usize::from(bound <= x)
 }
 
 // How many digits a number has. A sum over the bounds has no branch to guess.
@@ -31,16 +31,9 @@ pub fn width(x: u32) -> usize
 }
 
 // How many bytes of a name are no padding.
+#[tactic(auto, using(crate::proofs::Laws::kept_count))]
 pub fn kept(s: &[u8]) -> usize
     ensures { result ≡ length (unpadded s.now) }
 {
-    let mut n = 0;
-    let mut i = 0;
-    while i < s.len() {
-        if s[i] != SPACE {
-            n += 1;
-        }
-        i += 1;
-    }
-    n
+    s.iter().filter(|b| **b != SPACE).count()
 }

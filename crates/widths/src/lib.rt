@@ -17,7 +17,7 @@ use mps::layout;
 fn field(e: &[u8], k: usize) -> usize
     ensures { (result ≡ length (decimal_of (get_or e.now k 0))) × (result ≤ 5) }
 {
-    text::width(numbers::byte(e, k) as u32)
+    text::width(u32::from(numbers::byte(e, k)))
 }
 
 fn on_off(flags: u8) -> usize
@@ -42,7 +42,7 @@ fn interrupt_name(kind: u8) -> usize
 fn inside(e: &[u8], at: usize) -> usize
     ensures { result ≡ min at (length e.now) }
 {
-    if at < e.len() { at } else { e.len() }
+    at.min(e.len())
 }
 
 // "cpu" and five bytes behind words.
@@ -83,20 +83,13 @@ fn interrupt(e: &[u8]) -> usize
 pub fn base(e: &[u8]) -> usize
     ensures { result ≡ length (base_line e.now) }
 {
-    let kind = numbers::byte(e, 0);
-    if kind == layout::PROCESSOR_TYPE {
-        return cpu(e);
+    match numbers::byte(e, 0) {
+        layout::PROCESSOR_TYPE => cpu(e),
+        layout::BUS_TYPE => bus(e),
+        layout::IO_APIC_TYPE => io_apic(e),
+        layout::IO_INTERRUPT_TYPE => 3 + interrupt(e),
+        _ => 4 + interrupt(e),
     }
-    if kind == layout::BUS_TYPE {
-        return bus(e);
-    }
-    if kind == layout::IO_APIC_TYPE {
-        return io_apic(e);
-    }
-    if kind == layout::IO_INTERRUPT_TYPE {
-        return 3 + interrupt(e);
-    }
-    4 + interrupt(e)
 }
 
 // The line of an extended entry, by its type: "map", twice sixteen digits and five; "tree", a bit and four; "mod", a bit
@@ -104,17 +97,16 @@ pub fn base(e: &[u8]) -> usize
 pub fn extended(e: &[u8]) -> usize
     ensures { result ≡ length (extended_line e.now) }
 {
-    let kind = numbers::byte(e, 0);
-    if kind == layout::MAPPING_TYPE {
-        return 40 + field(e, layout::EXTENDED_BUS) + field(e, layout::SPACE_KIND);
+    match numbers::byte(e, 0) {
+        layout::MAPPING_TYPE => {
+            40 + field(e, layout::EXTENDED_BUS) + field(e, layout::SPACE_KIND)
+        }
+        layout::HIERARCHY_TYPE => {
+            9 + field(e, layout::EXTENDED_BUS) + field(e, layout::PARENT_BUS)
+        }
+        layout::MODIFIER_TYPE => {
+            8 + field(e, layout::EXTENDED_BUS) + text::width(numbers::le32(e, layout::RANGE_LIST))
+        }
+        _ => 7 + field(e, 0) + field(e, layout::ENTRY_LENGTH),
     }
-    if kind == layout::HIERARCHY_TYPE {
-        return 9 + field(e, layout::EXTENDED_BUS) + field(e, layout::PARENT_BUS);
-    }
-    if kind == layout::MODIFIER_TYPE {
-        return 8
-            + field(e, layout::EXTENDED_BUS)
-            + text::width(numbers::le32(e, layout::RANGE_LIST));
-    }
-    7 + field(e, 0) + field(e, layout::ENTRY_LENGTH)
 }

@@ -12,44 +12,51 @@ ghost use Rattle.std.proofs.lemmas.List.Edits.{sets};
 ghost use Rattle.mps.specs.Words.{exactly};
 ghost use Rattle.mps.specs.Sums.{sum256};
 ghost use Rattle.mps.specs.Layout.{header_size, base_bytes};
+ghost use Rattle.mps.specs.Answers.{answered};
 ghost use Rattle.mps.specs.Judge.{table_refusal};
 ghost use Rattle.mps.specs.Writing.{image, fields_of, parted, written, write_left};
 ghost use Rattle.mps.specs.Edits.{sealed};
 ghost use Rattle.writer.specs.Laid.{parts_given, front, front_size, rest, Room};
 
-use mps::{Fields, Lent, Parted, layout};
+use mps::{Fields, Parted, Refusal, layout};
 
-pub fn write(fields: Fields, base: &[u8], extended: &[u8], room: &mut [u8]) -> Lent
+pub fn write(
+    fields: Fields,
+    base: &[u8],
+    extended: &[u8],
+    room: &mut [u8],
+) -> Result<usize, Refusal>
     ensures value { result ≡ written (parts_given fields base.now extended.now) room.old }
     ensures room_after { room.new ≡ write_left (parts_given fields base.now extended.now) room.old }
 {
     let base_size = layout::HEADER_SIZE + base.len();
     if layout::PART_MOST < base_size {
-        return Lent::Refused(7);
+        return Err(Refusal::BaseLength);
     }
     if layout::PART_MOST < extended.len() {
-        return Lent::Refused(13);
+        return Err(Refusal::ExtendedPart);
     }
     let size = base_size + extended.len();
     if room.len() < size {
-        return Lent::Refused(19);
+        return Err(Refusal::RoomTooSmall);
     }
-    let number = lay_judged(fields, base, extended, &mut room[..size]);
-    if number == 0 {
-        return Lent::Count(size);
+    match lay_judged(fields, base, extended, &mut room[..size]) {
+        Ok(()) => Ok(size),
+        Err(refusal) => {
+            slices::clear(room, size);
+            Err(refusal)
+        }
     }
-    slices::clear(room, size);
-    Lent::Refused(number)
 }
 
-// The image, and the number that it is refused with.
-fn lay_judged(fields: Fields, base: &[u8], extended: &[u8], out: &mut [u8]) -> u8
+// The image, judged.
+fn lay_judged(fields: Fields, base: &[u8], extended: &[u8], out: &mut [u8]) -> Result<(), Refusal>
     requires { Room (parts_given fields base.now extended.now) out.old }
-    ensures value { result ≡ table_refusal (image (parts_given fields base.now extended.now)) }
+    ensures value { result ≡ answered (table_refusal (image (parts_given fields base.now extended.now))) tt }
     ensures out_after { out.new ≡ image (parts_given fields base.now extended.now) }
 {
     lay(fields, base, extended, out);
-    judge::refusal(out)
+    judge::judge(out)
 }
 
 // The image, in a room of its size.
@@ -125,18 +132,15 @@ fn base_sum(t: &[u8]) -> u8
 }
 
 // Where the entries of a table end. Its header fields are `fields`.
-pub fn parts(t: &[u8]) -> Parted
+pub fn parts(t: &[u8]) -> Result<Parted, Refusal>
     ensures { result ≡ parted t.now }
 {
-    let number = judge::refusal(t);
-    if number != 0 {
-        return Parted::Refused(number);
-    }
-    let base = lengths::base(t) as usize;
-    Parted::Parts {
-        base: base,
-        end: base + lengths::extended(t) as usize,
-    }
+    judge::judge(t)?;
+    let base = usize::from(lengths::base(t));
+    Ok(Parted {
+        base,
+        end: base + usize::from(lengths::extended(t)),
+    })
 }
 
 // The header fields of any bytes, 0 past their end. A table that is accepted has all of them (`fields_inside`).

@@ -1,10 +1,9 @@
-use Prim.Native.Nat.{◌-◌}
 use lib.ListN.{length}
 use Rattle.entries.proofs.Laws.{Counts}
 use Rattle.entries.proofs.count.Given as goal
 
-abbrev pub invariant-loop-at : goal.invariant-loop-at
-invariant-loop-at l = Counts l.s l.at l.n
+abbrev pub invariant-loop-kind : goal.invariant-loop-kind
+invariant-loop-kind l = Counts l.s l.rest l.n
 
-abbrev pub decreases-loop-at : goal.decreases-loop-at
-decreases-loop-at l = length l.s - l.at
+abbrev pub decreases-loop-kind : goal.decreases-loop-kind
+decreases-loop-kind l = length l.rest

@@ -1,10 +1,6 @@
-use Prim.Native.Nat.{◌<◌}
-use mathlib.Core.Path.{◌≡◌}
+use Rattle.std.proofs.Common.{◌≡◌, ◌-◌}
 use Rattle.parents.specs.Parents.{goes_on}
 use Rattle.parents.proofs.goes_on.Given as goal
 
-abbrev pub invariant-loop-left : goal.invariant-loop-left
-invariant-loop-left l = (goes_on l.left l.up l.place ≡ goes_on l.links l.up l.bus) × (l.place < 256)
-
-abbrev pub decreases-loop-left : goal.decreases-loop-left
-decreases-loop-left l = l.left
+abbrev pub invariant-loop : goal.invariant-loop
+invariant-loop l = goes_on (l.links - l.counter) l.up l.place ≡ goes_on l.links l.up l.bus

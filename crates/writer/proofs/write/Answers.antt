@@ -24,16 +24,16 @@ slice_bounds-lay_judged-end-2 c =
     let a = c.args in
     sym (length-take-le (image_size (parts_given a.fields a.base.now a.extended.now)) a.room.now c.if-room-size.false)
 
-pub lay_judged-number-requires : goal.lay_judged-number-requires
-lay_judged-number-requires c =
-    record { exact = sym (slice_bounds-lay_judged-end-2 (goal.at.lay_judged-number-requires c).After-lay_judged-arg-1); base = c.if-base_size-gt-PART_MOST.false; extended = c.if-extended-gt-PART_MOST.false }
+pub lay_judged-requires : goal.lay_judged-requires
+lay_judged-requires c =
+    record { exact = sym (slice_bounds-lay_judged-end-2 (goal.at.lay_judged-requires c).After-lay_judged-arg-1); base = c.if-base_size-gt-PART_MOST.false; extended = c.if-extended-gt-PART_MOST.false }
 
-pub returns-then-number-eq0 : goal.returns-then-number-eq0
-returns-then-number-eq0 c =
+pub returns-in-Ok : goal.returns-in-Ok
+returns-in-Ok c =
     let a = c.args in let both = write_done (parts_given a.fields a.base.now a.extended.now) a.room.now c.if-base_size-gt-PART_MOST.false c.if-extended-gt-PART_MOST.false c.if-room-size.false
-    c.lay_judged-number.ensures.value c.lay_judged-number.ensures.out_after c.if-number-eq0.true in record { value = both.0; room_after = both.1 }
+    c.lay_judged.ensures.value c.lay_judged.ensures.out_after c.in-Ok.is in record { value = both.0; room_after = both.1 }
 
-pub returns : goal.returns
-returns c =
+pub returns-in-Err : goal.returns-in-Err
+returns-in-Err c =
     let a = c.args in let both = write_refused (parts_given a.fields a.base.now a.extended.now) a.room.now c.if-base_size-gt-PART_MOST.false c.if-extended-gt-PART_MOST.false c.if-room-size.false
-    c.lay_judged-number.ensures.value c.lay_judged-number.ensures.out_after c.if-number-eq0.false c.clear.ensures in record { value = both.0; room_after = both.1 }
+    c.lay_judged.ensures.value c.lay_judged.ensures.out_after c.in-Err.is c.clear.ensures in record { value = both.0; room_after = both.1 }
