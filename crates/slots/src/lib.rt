@@ -82,6 +82,7 @@ fn of_set(set: &mut [u64], pci: &[u8; 256], s: &[u8], out: &mut [u8]) -> Result<
 }
 
 // The number of the slot that a source names.
+#[tactic(auto, unfolding(crate::specs::Sets::slot_number))]
 fn number(bus: u8, irq: u8) -> usize
     ensures value { result ≡ slot_number bus irq }
     ensures upper_bound { result < slots_most }
