@@ -99,22 +99,6 @@ answer_above Say.yes climbed f = refl
 answer_above Say.parent climbed f = f refl
 answer_above Say.undeclared climbed f = refl
 
--- A bus's own answer, by its mark: one that would ask on and cannot has none.
-module _ (mark climbed : ℕ) where
-  pub own_undeclared : (mark ≡ 0) ⊎ (mark ≡ 2) → Undeclared climbed ≡ answer (meaning mark) climbed (Undeclared climbed)
-  own_undeclared (inl e) = rw e
-  own_undeclared (inr e) = rw e
-
-  pub own_yes : mark ≡ 3 → Yes climbed ≡ answer (meaning mark) climbed (Undeclared climbed)
-  own_yes e = rw e
-
-pub own_no : (mark climbed : ℕ) → ((mark ≡ 0) ⊎ (mark ≡ 2) → ⊥) → (mark ≡ 3 → ⊥) → No climbed ≡ answer (meaning mark) climbed (Undeclared climbed)
-own_no zero climbed f g = absurd (f (inl refl))
-own_no (suc zero) climbed f g = refl
-own_no (suc (suc zero)) climbed f g = absurd (f (inr refl))
-own_no (suc (suc (suc zero))) climbed f g = absurd (g refl)
-own_no (suc (suc (suc (suc mark)))) climbed f g = refl
-
 -- It looks at no parent unless it is to ask it.
 own_answer : (mark climbed : ℕ) (x y : Seen) → (mark ≡ 2 → ⊥) → answer (meaning mark) climbed x ≡ answer (meaning mark) climbed y
 own_answer zero climbed x y n = refl
@@ -151,12 +135,6 @@ ends_own (suc zero) kept climbed n = refl
 ends_own (suc (suc zero)) kept climbed n = refl
 ends_own (suc (suc (suc zero))) kept climbed n = absurd (n refl)
 ends_own (suc (suc (suc (suc mark)))) kept climbed n = refl
-
--- The mark for a yes where one claims it.
-pub narrowed_claimed : (kept said : ℕ) → (said ≡ 0 → ⊥) → (said ≡ 1 → ⊥) → 1 ≡ narrowed kept said
-narrowed_claimed kept zero n m = absurd (n refl)
-narrowed_claimed kept (suc zero) n m = absurd (m refl)
-narrowed_claimed kept (suc (suc said)) n m = refl
 
 -- The steps of the climb: the bus asks its parent, no bus is left, or it does not ask.
 module _ (marks parents below : List ℕ) where

@@ -109,7 +109,7 @@ fn narrow(kept: u8, said: u8) -> u8
 }
 
 // "the parent's answer, if the bus has the subtractive bit". `left` are the listed buses not visited yet; `kept` is the mark
-// that the links climbed so far leave for a yes.
+// that the links climbed so far leave for a yes. No `for`: the links climbed are a part of the answer.
 fn climb(marks: &[u8; 256], parents: &[u8; 256], below: &[u8; 256], bus: u8, left: usize) -> Seen
     ensures { result ≡ climb_in left marks.now parents.now below.now bus 0 }
 {

@@ -1,3 +1,2 @@
-pub mod Ranks
 pub mod Marks
 pub mod Below

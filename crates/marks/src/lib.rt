@@ -22,7 +22,8 @@ ghost use Rattle.marks.specs.Marks.{mapping_rank, link_rank, modifier_rank, mark
 use mps::layout;
 
 // What an entry says of its bus, the higher before the lower: nothing, that the bus has an entry, that it is to ask its
-// parent, that it sees the address, that the address is taken away from it.
+// parent, that it sees the address, that the address is taken away from it. Numbers and no enum, since `gather` promises lists of
+// the numbers that specs/Marks.antt defines.
 
 pub const UNDECLARED: u8 = 0;
 
@@ -86,7 +87,7 @@ fn mapping_rank(e: &[u8], kind: u8, address: u64) -> u8
     DECLARED
 }
 
-#[tactic(auto, using(crate::proofs::Ranks::marked_done, crate::proofs::Ranks::marked_next))]
+#[tactic(auto, using(laws::proofs::Rows::row_steps), unfolding(crate::specs::Marks::marked))]
 fn mark_mappings(marks: &mut [u8; 256], s: &[u8], kind: u8, address: u64)
     ensures { marks.new ≡ marked extended_bus (mapping_rank kind address) marks.old (rows mapping_size s.now) }
 {
@@ -110,7 +111,7 @@ fn link_rank(e: &[u8]) -> u8
     UNDECLARED
 }
 
-#[tactic(auto, using(crate::proofs::Ranks::marked_done, crate::proofs::Ranks::marked_next, crate::proofs::Ranks::parented_done, crate::proofs::Ranks::parented_next))]
+#[tactic(auto, using(laws::proofs::Rows::row_steps), unfolding(crate::specs::Marks::marked, crate::specs::Marks::parented))]
 fn mark_links(marks: &mut [u8; 256], parents: &mut [u8; 256], s: &[u8])
     ensures marks_after { marks.new ≡ marked extended_bus link_rank marks.old (rows link_size s.now) }
     ensures parents_after { parents.new ≡ parented parents.old (rows link_size s.now) }
@@ -167,7 +168,7 @@ fn modifier_rank(e: &[u8], lists: u8) -> u8
 }
 
 // The lists are looked up once.
-#[tactic(auto, using(crate::proofs::Ranks::marked_done, crate::proofs::Ranks::marked_next))]
+#[tactic(auto, using(laws::proofs::Rows::row_steps), unfolding(crate::specs::Marks::marked))]
 fn mark_modifiers(marks: &mut [u8; 256], s: &[u8], kind: u8, address: u64)
     ensures { marks.new ≡ marked extended_bus (modifier_rank kind address) marks.old (rows link_size s.now) }
 {
@@ -204,7 +205,7 @@ fn raise(below: &mut [u8; 256], at: usize, said: u8)
 }
 
 // A bus that asks its parent says nothing below it: so no bus that the climb comes from is counted beside itself.
-#[tactic(auto, using(crate::proofs::Ranks::marked_done, crate::proofs::Ranks::marked_next))]
+#[tactic(auto, using(laws::proofs::Rows::row_steps), unfolding(crate::specs::Marks::marked))]
 fn mark_below(below: &mut [u8; 256], marks: &[u8; 256], s: &[u8])
     ensures { below.new ≡ said_below marks.now below.old (rows link_size s.now) }
 {

@@ -95,6 +95,7 @@ fn hold(set: &mut [u64; 4], s: &[u8], size: usize) -> usize
 }
 
 // The number of an enabled I/O APIC with this ID. A new one is put in; its own is in already.
+#[tactic(auto, unfolding(crate::specs::Giving::number_in, crate::specs::Giving::own_with))]
 fn number(own: &mut [u64; 4], processors: &[u64; 4], id: u8) -> u8
     requires { number_in processors.now own.old id < 256 }
     ensures value { result ≡ number_in processors.now own.old id }

@@ -16,11 +16,7 @@ use Rattle.laws.proofs.Rows.{rows_short, rows_cut}
 use Rattle.laws.proofs.Writes.{Writes, writes_next}
 use Rattle.routes.specs.Pairs.{named, pairs_for, pairs_in}
 
--- ---- One pair, and a pair for each ID
-
-pub pair_put : (t : List ℕ) (at : ℕ) (e : Entry) (id : ℕ) → set (set t at id) (at + 1) (input e) ≡ sets t at (pair e id)
-unfolding pair
-pair_put t at e id = rw (add-one at)
+-- ---- A pair for each ID
 
 -- From ID i on: none is left, or one and those behind it.
 module _ (e : Entry) (ids : List ℕ) (i : ℕ) where

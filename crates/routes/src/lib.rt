@@ -286,6 +286,7 @@ fn has_room(room: usize, s: &[u8], wire: &Wire, targets: Targets) -> bool
 }
 
 // One pair, of an interrupt entry and an ID.
+#[tactic(auto, unfolding(mps::specs::Routes::pair))]
 fn put_pair(out: &mut [u8], at: usize, entry: &[u8], id: u8)
     requires { (length entry.now ≡ entry_size) × (at + pair_size ≤ length out.old) }
     ensures { out.new ≡ sets out.old at (pair entry.now id) }

@@ -82,6 +82,7 @@ fn of_set(set: &mut [u64], pci: &[u8; 256], s: &[u8], out: &mut [u8]) -> Result<
 }
 
 // The number of the slot that a source names.
+#[tactic(auto, unfolding(crate::specs::Sets::slot_number))]
 fn number(bus: u8, irq: u8) -> usize
     ensures value { result ≡ slot_number bus irq }
     ensures upper_bound { result < slots_most }
@@ -148,7 +149,7 @@ fn put_slot(out: &mut [u8], at: usize, n: usize)
 }
 
 // The slots of one word, whose first bit is the slot `first`; answers the place behind them. Each turn takes the lowest bit
-// that is set, so that a word costs what it has.
+// that is set, so that a word costs what it has: nothing is counted by hand that a `for` would count.
 fn put_word(out: &mut [u8], at: usize, word: u64, first: usize) -> usize
     requires { (first + 64 ≤ slots_most) × (at + length (joined slot_bytes (set_bits 64 first word)) ≤ length out.old) }
     ensures value { result ≡ at + length (joined slot_bytes (set_bits 64 first word)) }
