@@ -85,6 +85,9 @@ module _ (n : ℕ) (rest e left : List ℕ) (z : 0 < n) (h : length e ≡ n) (c 
   pub rows_more : rows n rest ≡ e ∷ rows n left
   rows_more = rw (c, rows_cut n e left z h)
 
+-- What a `for` over pieces steps by, for a function of the rows left.
+pub ruleset row_steps = (rows_short, rows_more)
+
 -- `any` of `chunks_exact`, whose closure says of each piece what p says of a row.
 module _ {F : Type 0} {g : Mut F (Bor (List ℕ) × Unit {0}) Bool} (p : Entry → Bool) {n : ℕ} {f : F} (z : 0 < n)
     (says : (x : Bor (List ℕ)) (b : Bool) (q : F) → length x.now ≡ n → Called g f (x, tt) b q → (q ≡ f) × (p x.now ≡ b))
