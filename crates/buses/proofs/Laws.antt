@@ -36,6 +36,11 @@ module _ (roll e : List ℕ) {a : Bool} (p : a ≡ marked 3 roll (get_or e 1 0))
   unfolding bus_call wrong_one unknown_name
   bus_free f q = rw (← p, f, q)
 
+pub bus_fine :
+    (roll e : List ℕ) {a : Bool} → a ≡ marked 3 roll (get_or e 1 0) → a ≡ false → is_bus_name (name_of e) ≡ true → wrong_one bus_call roll e ≡ false
+unfolding bus_call wrong_one unknown_name
+bus_fine roll e p f q = rw (← p, f, q)
+
 pub ruleset bus_steps = (bus_taken, bus_free)
 
 pub bus_next :

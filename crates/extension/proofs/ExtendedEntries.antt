@@ -5,7 +5,6 @@ use mathlib.Core.Path.{◌≡◌, refl, ap, sym, ◌∙◌}
 use mathlib.Core.Bool.{Bool, true, false, cond, not, ◌||◌, ◌&&◌, or-true}
 use mathlib.Core.List.{List, [], ◌∷◌}
 use native.Mathlib.Omega.{arith}
-use native.Mathlib.Nat.{add-zero}
 use lib.ListN.{length, get_or, take, drop, length-drop, length-take, get_or-eq_default}
 use lib.Seq.{get_or-take, get_or-drop, length-take-le, take_all}
 use lib.Dec.{eqb, ltb, leb}
@@ -363,18 +362,6 @@ module _
 
 -- ---- Type and length as one number
 
-pub first_two :
-    (n : ℕ) (s : List ℕ) (place : ℕ) → 2 ≤ n → le 2 (take 2 (take n (drop place s))) 0 ≡ get_or s place 0 + 256 * get_or s (place + 1) 0
+pub first_two : (e : Entry) → le 2 (take 2 e) 0 ≡ get_or e 0 0 + 256 * get_or e 1 0
 unfolding le
-first_two n s place h =
-    let there = drop place s in
-    rw (
-      get_or-take 2 (take n there) 0 0 (omega arith),
-      get_or-take 2 (take n there) 1 0 (omega arith),
-      get_or-take n there 0 0 (omega (arith, h)),
-      get_or-take n there 1 0 (omega (arith, h)),
-      get_or-drop place s 0 0,
-      get_or-drop place s 1 0,
-      add-zero place,
-    )
-    (omega arith)
+first_two e = rw (get_or-take 2 e 0 0 (omega arith), get_or-take 2 e 1 0 (omega arith)) (omega arith)

@@ -33,12 +33,16 @@ fn run_of(s: &[u8], at: usize, kind: u8) -> usize
 {
     let size = runs::size_of(kind - layout::MAPPING_TYPE);
     let first = usize::from(kind) + 256 * size;
-    // Type and length as one number: one load and one test an entry.
-    at + size
-        * s[at..]
-            .chunks_exact(size)
-            .take_while(|e| usize::from(numbers::le16(&e[..layout::LEAST_LENGTH], 0)) == first)
-            .count()
+    // A count of the entries that lead, by `take_while`, took longer (`sections`).
+    let mut place = at;
+    for e in s[at..].chunks_exact(size) {
+        // Type and length as one number: one load and one test an entry.
+        if usize::from(numbers::le16(&e[..layout::LEAST_LENGTH], 0)) != first {
+            return place;
+        }
+        place += size;
+    }
+    place
 }
 
 // Whether an entry is faulty among those from `at` on, which are behind the known types; a byte alone is one.

@@ -177,6 +177,7 @@ module _ {A : Type 0} (n : ℕ) (a : A) where
   ok_exactly = (λ e. (given_ok n a (sym e)).0, λ z. sym (answered_ok n a z))
 
   pub err_exactly : (r : Refusal) → Known n → (answered n a ≡ Err r) ↔ (n ≡ number_of_refusal r)
-  err_exactly r k =
-      (λ e. let g = given_err n a (sym e) in sym (number_numbered n g.0 k) ∙ ap number_of_refusal (sym g.1),
-      λ h. sym (answered_err n a (λ z. absurd (omega (arith, refusal_small r, h, z))) (sym (numbered_number r) ∙ ap refusal_numbered (sym h))))
+  err_exactly r k = (
+    λ e. let g = given_err n a (sym e) in sym (number_numbered n g.0 k) ∙ ap number_of_refusal (sym g.1),
+    λ h. sym (answered_err n a (λ z. absurd (omega (arith, refusal_small r, h, z))) (sym (numbered_number r) ∙ ap refusal_numbered (sym h))),
+  )

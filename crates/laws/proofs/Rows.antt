@@ -1,23 +1,19 @@
 -- Laws of `rows`, the whole pieces of n bytes, for a loop over a slice. Assumes nothing.
-use Prim.Native.Nat.{ℕ, zero, suc, pred, ◌+◌, ◌-◌, ◌*◌, ◌/◌, ◌≤◌, ◌<◌}
+use Prim.Native.Nat.{ℕ, zero, suc, pred, ◌+◌, ◌-◌, ◌/◌, ◌≤◌, ◌<◌}
 use mathlib.Core.Path.{◌≡◌, refl, sym, ap, ◌∙◌}
 use mathlib.Core.Bool.{Bool, true, false}
 use mathlib.Core.List.{List, [], ◌∷◌, ◌++◌}
 use denote.Ref.{Bor}
 use denote.Param.Members.{Mut}
 use native.Mathlib.Omega.{arith}
-use native.Mathlib.Nat.{mul-suc}
 use lib.ListN.{length, get_or, take, drop, length-drop, length-append, drop_of_length-le}
 use Rattle.std.proofs.lemmas.List.{take_at, drop_at}
-use Rattle.std.specs.Fn.{Called, CalledAt}
-use Rattle.std.specs.Iterator.{Yields, ChecksAny, Drains}
-use Rattle.std.specs.Iterator.Adapters.{take_while_source, take_while_done, take_while_callee, take_while_steps}
+use Rattle.std.specs.Fn.{Called}
+use Rattle.std.specs.Iterator.{Yields, ChecksAny}
 use Rattle.std.specs.List.{FoldsTo}
 use Rattle.std.specs.Option.{MatchOption}
 use Rattle.std.specs.Slice.Iter.{chunks_exact_rest, chunks_exact_size, chunks_exact_steps}
 use Rattle.std.specs.declared.slice.ChunksExact.{ChunksExact}
-use Rattle.std.specs.declared.iter.TakeWhile.{TakeWhile}
-use Rattle.std.specs.Bool.{MatchBool}
 use Rattle.std.specs.declared.option.Option.{Option}
 use Rattle.std.specs.declared.option.Option.TheVariants.{None, Some}
 use lib.Seq.{drop-drop, get_or-drop, get_or-take, length-take-le, take_all}
@@ -89,6 +85,9 @@ module _ (n : ℕ) (rest e left : List ℕ) (z : 0 < n) (h : length e ≡ n) (c 
   pub rows_more : rows n rest ≡ e ∷ rows n left
   rows_more = rw (c, rows_cut n e left z h)
 
+-- What a `for` over pieces steps by, for a function of the rows left.
+pub ruleset row_steps = (rows_short, rows_more)
+
 -- `any` of `chunks_exact`, whose closure says of each piece what p says of a row.
 module _ {F : Type 0} {g : Mut F (Bor (List ℕ) × Unit {0}) Bool} (p : Entry → Bool) {n : ℕ} {f : F} (z : 0 < n)
     (says : (x : Bor (List ℕ)) (b : Bool) (q : F) → length x.now ≡ n → Called g f (x, tt) b q → (q ≡ f) × (p x.now ≡ b))
@@ -118,113 +117,23 @@ module _ {F : Type 0} {g : Mut F (Bor (List ℕ) × Unit {0}) Bool} (p : Entry �
         → r ≡ any p (rows n bytes)
     any_of_pieces {s} {u} {bytes} {r} d k l = rw (← l) (any_left d.0 s d.3.0 u d.2 d.1 r k d.3.1 d.3.2 d.4 d.5)
 
--- How many pieces of `chunks_exact` pass a test that ends the count: what holds of a place, and stays so behind each piece that
--- passes, holds of the place behind them; and there no whole piece is left, or it does not pass.
-module _ {F : Type 0} {g : Mut F (Bor (Bor (List ℕ)) × Unit {0}) Bool} {f : F} (p : Entry → Bool) (P : ℕ → Type 0) (n : ℕ) (s : List ℕ) (z : 0 < n)
-    (says : (x : Bor (List ℕ)) (b : Bool) (q : F) → length x.now ≡ n → CalledAt g f x b q → (q ≡ f) × (p x.now ≡ b))
-    (keeps : (place : ℕ) → n ≤ length s - place → p (take n (drop place s)) ≡ true → P place → P (place + n))
-  where
-    pub record Ended (place : ℕ) : Type 0 where
-      pub so : P place
-      pub inside : place ≤ length s
-      pub ends : n ≤ length s - place → p (take n (drop place s)) ≡ true → ⊥
+-- Where a loop over the pieces from a place on has come to.
+module _ (n : ℕ) (s : List ℕ) (place : ℕ) where
+  pub from_there : place ≤ length s → take (length s - place) (drop place s) ≡ drop place s
+  from_there h = take_all (length s - place) (drop place s) (omega (arith, length-drop place s))
 
-    abbrev Leading : Type 0
-    Leading = TakeWhile (ChunksExact ℕ) F
+  module _ (e left : List ℕ) (c : drop place s ≡ e ++ left) (h : length e ≡ n) where
+    pub piece_fits : 0 < n → n ≤ length s - place
+    piece_fits z = omega (arith, h, length-drop place s, ap length c, length-append e left)
 
-    record Left (t : Leading) (place : ℕ) : Type 0 where
-      going : take_while_done t ≡ false
-      callee : take_while_callee t ≡ f
-      size : chunks_exact_size (take_while_source t) ≡ n
-      rest : chunks_exact_rest (take_while_source t) ≡ drop place s
-      inside : place ≤ length s
-      so : P place
+    pub piece_byte : (k : ℕ) → k < n → get_or e k 0 ≡ get_or s (place + k) 0
+    piece_byte k f = let row : take n (drop place s) ≡ e = rw (c, take_at e left n h) in ap (λ (x : List ℕ). get_or x k 0) (sym row) ∙ row_byte n s place k f
 
-    -- The piece there.
-    piece_is : (place : ℕ) (x rest : List ℕ) → drop place s ≡ x ++ rest → length x ≡ n → take n (drop place s) ≡ x
-    piece_is place x rest c h = rw (c, take_at x rest n h)
+    pub piece_first : 0 < n → get_or e 0 0 ≡ get_or s place 0
+    piece_first z = let here : place + 0 ≡ place = omega arith in rw here at (piece_byte 0 z)
 
-    left_next :
-        (t j : Leading) (place : ℕ) (x : Bor (List ℕ)) → Left t place → take_while_steps chunks_exact_steps g t (Some x) j → Left j (place + n)
-    left_next t j place x l w = let v = rw l.going at w in by v.0 v.1 v.2
-      where
-        flag :
-            (y : Bor (List ℕ)) (b : Bool) → chunks_exact_steps (take_while_source t) (Some y) (take_while_source j)
-            → CalledAt g (take_while_callee t) y b (take_while_callee j)
-            → MatchBool b ((Some x ≡ Some y) × (take_while_done j ≡ false)) ((Some x ≡ None) × (take_while_done j ≡ true)) → Left j (place + n)
-        flag y false w e k = let none = k.0 in cc
-        flag y true w e k =
-            let h : length y.now ≡ n = w.1.1 ∙ l.size in
-            let c : drop place s ≡ y.now ++ chunks_exact_rest (take_while_source j) = sym l.rest ∙ w.1.0 in
-            let long : n ≤ length s - place = omega (arith, h, length-drop place s, ap length c, length-append y.now (chunks_exact_rest (take_while_source j))) in
-            let told = says y true (take_while_callee j) h (rw l.callee at e) in
-            let row = piece_is place y.now (chunks_exact_rest (take_while_source j)) c h in
-            record {
-              going = k.1;
-              callee = told.0;
-              size = w.0 ∙ l.size;
-              rest = sym (drop_at y.now (chunks_exact_rest (take_while_source j)) n h) ∙ ap (drop n) (sym c) ∙ drop-drop n place s;
-              inside = omega (arith, l.inside, long);
-              so = keeps place long (rw row told.1) l.so;
-            }
-
-        by :
-            (o : Option (Bor (List ℕ))) → chunks_exact_steps (take_while_source t) o (take_while_source j)
-            → MatchOption o ((Some x ≡ None) × (take_while_done j ≡ false))
-            (λ y. (b : Bool) × CalledAt g (take_while_callee t) y b (take_while_callee j)
-            × MatchBool b ((Some x ≡ Some y) × (take_while_done j ≡ false)) ((Some x ≡ None) × (take_while_done j ≡ true)))
-            → Left j (place + n)
-        by None w e = let none = e.0 in cc
-        by (Some y) w e = flag y e.0 w e.1 e.2
-
-    left_end : (t u : Leading) (place : ℕ) → Left t place → take_while_steps chunks_exact_steps g t None u → Ended place
-    left_end t u place l w = let v = rw l.going at w in by v.0 v.1 v.2
-      where
-        flag :
-            (y : Bor (List ℕ)) (b : Bool) → chunks_exact_steps (take_while_source t) (Some y) (take_while_source u)
-            → CalledAt g (take_while_callee t) y b (take_while_callee u)
-            → MatchBool b (◌≡◌ {A = Option (Bor (List ℕ))} None (Some y) × (take_while_done u ≡ false)) (◌≡◌ {A = Option (Bor (List ℕ))} None None × (take_while_done u ≡ true)) → Ended place
-        flag y true w e k = let none = k.0 in cc
-        flag y false w e k =
-            let h : length y.now ≡ n = w.1.1 ∙ l.size in
-            let c : drop place s ≡ y.now ++ chunks_exact_rest (take_while_source u) = sym l.rest ∙ w.1.0 in
-            let told = says y false (take_while_callee u) h (rw l.callee at e) in
-            let row = piece_is place y.now (chunks_exact_rest (take_while_source u)) c h in
-            record {
-              so = l.so;
-              inside = l.inside;
-              ends = λ m q. let no : p (take n (drop place s)) ≡ false = rw row told.1 in cc;
-            }
-
-        by :
-            (o : Option (Bor (List ℕ))) → chunks_exact_steps (take_while_source t) o (take_while_source u)
-            → MatchOption o (◌≡◌ {A = Option (Bor (List ℕ))} None None × (take_while_done u ≡ false))
-            (λ y. (b : Bool) × CalledAt g (take_while_callee t) y b (take_while_callee u)
-            × MatchBool b (◌≡◌ {A = Option (Bor (List ℕ))} None (Some y) × (take_while_done u ≡ false)) (◌≡◌ {A = Option (Bor (List ℕ))} None None × (take_while_done u ≡ true)))
-            → Ended place
-        by None w e =
-            let short = w.1.0 in
-            record {
-              so = l.so;
-              inside = l.inside;
-              ends = λ m q. omega (arith, m, short, l.size, ap length l.rest, length-drop place s);
-            }
-        by (Some y) w e = flag y e.0 w e.1 e.2
-
-    leads :
-        (xs : List (Bor (List ℕ))) (t u v : Leading) (place : ℕ) → Left t place → Yields (take_while_steps chunks_exact_steps g) t xs u
-        → take_while_steps chunks_exact_steps g u None v → Ended (place + n * length xs)
-    leads [] t u v place l y w = let none : place + n * 0 ≡ place = omega arith in rw none (left_end t v place l (rw (← y) at w))
-    leads (x ∷ xs) t u v place l y w =
-        let more : place + n * suc (length xs) ≡ place + n + n * length xs = omega (arith, mul-suc n (length xs)) in
-        rw more (leads xs y.0 u v (place + n) (left_next t y.0 place x l y.1) y.2 w)
-
-    pub count_of_pieces :
-        {t : Leading} {at k : ℕ} → (xs : List (Bor (List ℕ))) × Drains (take_while_steps chunks_exact_steps g) t xs × (k ≡ length xs)
-        → take_while_done t ≡ false → take_while_callee t ≡ f → chunks_exact_size (take_while_source t) ≡ n
-        → chunks_exact_rest (take_while_source t) ≡ take (length s - at) (drop at s) → at ≤ length s → P at → Ended (at + n * k)
-    count_of_pieces {t} {at} {k} d a b c e h q =
-        rw d.2 (leads d.0 t d.1.1.0 d.1.0 at (record { going = a; callee = b; size = c; rest = e ∙ take_all (length s - at) (drop at s) (omega (arith, length-drop at s)); inside = h; so = q }) d.1.1.1 d.1.1.2)
+    pub piece_left : left ≡ drop (place + n) s
+    piece_left = sym (drop_at e left n h) ∙ ap (drop n) (sym c) ∙ drop-drop n place s
 
 -- What is so of no rows, and of one row and those behind it where it is so of those, is so of all rows from a place on. P
 -- is told the place too; k is any number of bytes that the rest does not pass.

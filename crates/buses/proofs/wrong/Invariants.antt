@@ -8,4 +8,4 @@ use Rattle.buses.proofs.wrong.Given as goal
 abbrev pub invariant-loop-e : goal.invariant-loop-e
 invariant-loop-e l =
     (chunks_exact_size l.e-iterator ≡ 8)
-    × (called bus_call l.roll (rows 8 (chunks_exact_rest l.e-iterator)) ≡ called bus_call l.initial.roll (rows 8 l.s))
+    × (called bus_call l.roll (rows 8 (chunks_exact_rest l.e-iterator)) ≡ called bus_call l.fn.roll (rows 8 l.s))

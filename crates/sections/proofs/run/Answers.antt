@@ -1,28 +1,52 @@
--- `run` meets its contract: `Upto` holds of the place that it has come to, and the count ends where no entry of the type is.
-use mathlib.Core.Path.{sym, ◌∙◌}
+-- `run` meets its contract: `Upto` holds of the place that the loop has come to, and it ends where no whole entry of the type is.
+use mathlib.Core.Path.{sym, ◌∙◌, ap}
 use native.Mathlib.Omega.{arith}
-use Rattle.std.proofs.Common.{rules, ◌<◌}
-use borrow.Author.Tests.{eq-eqb, eqb-true}
-use Rattle.mps.specs.Layout.{of_type, base_entry_length}
-use Rattle.laws.proofs.Rows.{count_of_pieces}
-use Rattle.runs.proofs.Runs.{Upto, upto_start}
+use Rattle.std.proofs.Common.{◌<◌, length, length-drop}
+use Rattle.std.specs.Slice.Iter.{chunks_exact_rest}
+use Rattle.laws.proofs.Rows.{piece_fits, piece_first, piece_left}
 use Rattle.runs.proofs.Pieces.{size_some}
-use Rattle.sections.specs.Base.{base_own}
-use Rattle.sections.proofs.BaseEntries.{type_there, run_next, run_stop}
+use Rattle.sections.proofs.BaseEntries.{run_next, run_stop}
 use Rattle.sections.proofs.run.Goals as goal
+
+pub returns-then-e-kind : goal.returns-then-e-kind
+returns-then-e-kind c =
+    let s = c.args.s.now in
+    let n = c.size_of-size.result in
+    let l = c.loop-e in
+    let i = l.invariant in
+    let w = c.in-Some.ensures.steps in
+    let z = c.size_of-size.ensures in
+    let first =
+    piece_first n s l.place c.in-Some.e.now (chunks_exact_rest c.next.new.self) (sym i.left ∙ w.1.0) (w.1.1 ∙ i.size)
+    (omega (arith, z, size_some c.args.kind))
+    in
+    run_stop s l.place c.args.kind n c.args.at i.upto z (λ t f. c.if-e-kind.true (first ∙ t))
+
+pub loop-e-preserved : goal.loop-e-preserved
+loop-e-preserved c =
+    let s = c.args.s.now in
+    let n = c.size_of-size.result in
+    let l = c.loop-e in
+    let i = l.invariant in
+    let w = c.in-Some.ensures.steps in
+    let z = c.size_of-size.ensures in
+    let e = c.in-Some.e.now in
+    let left = chunks_exact_rest c.next.new.self in
+    let cut = sym i.left ∙ w.1.0 in
+    let h = w.1.1 ∙ i.size in
+    let some : 0 < n = omega (arith, z, size_some c.args.kind) in
+    record {
+      size = w.0 ∙ i.size;
+      left = piece_left n s l.place e left cut h;
+      upto =
+          run_next s l.place c.args.kind n c.args.at i.upto (omega arith) z (piece_fits n s l.place e left cut h some)
+          (sym (piece_first n s l.place e left cut h some) ∙ c.if-e-kind.false);
+    }
 
 pub returns : goal.returns
 returns c =
-    let a = c.args in
-    let s = a.s.now in
-    let n = c.size_of-size.result in
-    let z = c.size_of-size.ensures in
-    let some : 0 < n = omega (arith, z, size_some a.kind) in
-    let k = c.chunks_exact.ensures in
-    let w = c.take_while.ensures in
-    let e =
-    count_of_pieces (of_type a.kind) (λ place. Upto base_own base_entry_length s a.kind a.at place) n s some (λ x b q l d. search rules)
-    (λ place m t u. run_next s place a.kind n a.at u (omega arith) z m (sym (type_there s place n some) ∙ eqb-true _ _ t))
-    c.count.ensures.ran w.done w.closure (rw w.source k.size) (rw w.source k.rest) (omega arith) (upto_start _ _ _ _ _ (omega arith))
-    in
-    run_stop s _ a.kind n a.at e.so z (λ t l. e.ends l (eq-eqb _ _ (type_there s _ n some ∙ t)))
+    let s = c.args.s.now in
+    let l = c.loop-e in
+    let i = l.invariant in
+    let w = c.in-None.ensures.steps in
+    run_stop s l.place c.args.kind _ c.args.at i.upto c.size_of-size.ensures (λ t f. omega (arith, f, w.1.0, i.size, ap length i.left, length-drop l.place s))
