@@ -5,10 +5,10 @@ use mathlib.Core.Bool.{Bool, true, false}
 use mathlib.Core.List.{List, [], ◌++◌}
 use native.Mathlib.Omega.{arith}
 use native.Mathlib.Numerals.{add-one}
-use lib.ListN.{length, get_or, set, drop, drop_of_length-le, length-append}
+use lib.ListN.{length, get_or, drop, drop_of_length-le, length-append}
 use lib.Seq.{drop-cons, sets}
 use Rattle.mps.specs.Words.{keep, joined}
-use Rattle.mps.specs.Layout.{Entry, destination, input}
+use Rattle.mps.specs.Layout.{Entry, destination}
 use Rattle.mps.specs.Sections.{rows}
 use Rattle.mps.specs.Routes.{pair}
 use Rattle.laws.proofs.Lists.{keep_in, keep_out}

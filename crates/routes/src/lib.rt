@@ -240,6 +240,7 @@ fn answer(
 
 // The enabled APICs, of entries of `size` bytes each: they are put on the roll, and their IDs stand in `ids` from its first
 // place on, in table order. Answers how many they are.
+#[tactic(auto, using(laws::proofs::Enabled::ids_end, laws::proofs::Enabled::ids_on, laws::proofs::Enabled::ids_off), unfolding(apics::specs::Enabled::enabled_in, roll::specs::Roll::enrolled))]
 fn gather(roll: &mut [u8; 256], ids: &mut [u8; 256], s: &[u8], size: usize) -> usize
     requires { (4 ≤ size) × (length (enabled_in size s.now) ≤ 256) }
     ensures value { result ≡ length (enabled_in size s.now) }
@@ -259,6 +260,7 @@ fn gather(roll: &mut [u8; 256], ids: &mut [u8; 256], s: &[u8], size: usize) -> u
 }
 
 // How many pairs there are.
+#[tactic(auto, using(laws::proofs::Rows::row_steps, crate::proofs::Counting::named_most), unfolding(crate::specs::Pairs::count_in, mps::specs::Words::keep, mps::specs::Words::each, mps::specs::Sums::total))]
 fn count(s: &[u8], wire: &Wire, targets: Targets) -> usize
     requires { length s.now ≤ 65535 }
     ensures value { result ≡ count_in targets.entry.ids.now (asked_by wire.now) (rows entry_size s.now) }

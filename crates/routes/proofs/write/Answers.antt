@@ -1,5 +1,6 @@
 -- The pairs of the rows left make the whole (`Writes`).
 use native.Mathlib.Omega.{arith}
+use Rattle.std.specs.Slice.Iter.{chunks_exact_rest}
 use Rattle.laws.proofs.Writes.{writes_done}
 use Rattle.routes.specs.Pairs.{asked_by}
 use Rattle.routes.proofs.Writing.{pairs_done, pairs_room, pairs_put, pairs_pass}
@@ -38,6 +39,6 @@ loop-e-preserved c =
 pub returns : goal.returns
 returns c =
     let a = c.args in
-    let none = pairs_done a.targets.ids.now (asked_by a.wire.now) _ (omega (arith, c.in-None.ensures.steps.1.0, c.loop-e.invariant.0)) in
+    let none = pairs_done a.targets.ids.now (asked_by a.wire.now) (chunks_exact_rest c.loop-e.e-iterator) (omega (arith, c.in-None.ensures.steps.1.0, c.loop-e.invariant.0)) in
     let done = writes_done c.loop-e.invariant.1 none in
     record { value = omega (arith, done.0); out_after = done.1 }
