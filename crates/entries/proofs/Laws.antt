@@ -5,7 +5,7 @@ use mathlib.Core.Bool.{Bool, true, false, cond}
 use mathlib.Core.List.{List, [], ◌∷◌}
 use native.Mathlib.Omega.{arith}
 use native.Mathlib.Nat.{add-zero}
-use lib.ListN.{length, get_or, take, drop, length-drop}
+use lib.ListN.{length, get_or, take, drop}
 use lib.Seq.{get_or-drop}
 use lib.Dec.{eqb}
 use borrow.Author.Tests.{eq-eqb, ne_eqb}
@@ -43,28 +43,24 @@ module _ (s : List ℕ) (at : ℕ) {n : ℕ} (h : at < length s) (e : n ≡ base
   entry_next =
       cut_next base_entry_length s at n h (e ∙ size_at_lem s at) (let b = size_bounds (get_or s at 0 ∷ []) in omega arith)
 
--- ---- count: those counted, and those of what is left, are all
+-- ---- count: those counted, and those from here on, are all
 
-pub record Counts (s rest : List ℕ) (n : ℕ) : Type 0 where
-  pub all : n + length (cut base_entry_length 0 rest) ≡ length (cut base_entry_length 0 s)
-  pub few : n + length rest ≤ length s
+pub record Counts (s : List ℕ) (at n : ℕ) : Type 0 where
+  pub all : n + length (cut base_entry_length 0 (drop at s)) ≡ length (cut base_entry_length 0 s)
+  pub near : at ≤ length s + 19
+  pub few : n ≤ at
 
-pub counts_first : (s : List ℕ) → Counts s s 0
-counts_first s = record { all = omega arith; few = omega arith }
-
-pub counts_less : (rest : List ℕ) {next : List ℕ} {k : ℕ} (b : ℕ) → 0 < length rest → k ≡ base_entry_length (b ∷ []) → next ≡ drop k rest → length next < length rest
-counts_less rest {next} {k} b h e f = let m = size_bounds (b ∷ []) in rw f (omega (arith, length-drop k rest))
+pub counts_first : (s : List ℕ) → Counts s 0 0
+counts_first s = record { all = omega arith; near = omega arith; few = omega arith }
 
 pub counts_next :
-    (s rest : List ℕ) {next : List ℕ} {n k b : ℕ} → Counts s rest n → 0 < length rest → b ≡ get_or rest 0 0 → k ≡ base_entry_length (b ∷ []) → next ≡ drop k rest
-    → Counts s next (n + 1)
-counts_next s rest {next} {n} {k} {b} c h g e f =
-    let z : 0 + k ≡ k = omega arith in
-    let l = ap length (rw z at (entry_next rest 0 h (rw g at e))) in
-    let d = counts_less rest b h e f in
+    (s : List ℕ) {at n k : ℕ} → Counts s at n → at < length s → k ≡ base_entry_length (get_or s at 0 ∷ []) → Counts s (at + k) (n + 1)
+counts_next s {at} {n} {k} c h e =
+    let b = size_bounds (get_or s at 0 ∷ []) in
+    let f = ap length (entry_next s at h e) in
     let a = c.all in
     let w = c.few in
-    record { all = rw f (omega arith); few = omega arith }
+    record { all = omega arith; near = omega arith; few = omega arith }
 
-pub counts_done : (s rest : List ℕ) {n : ℕ} → Counts s rest n → length rest ≡ 0 → n ≡ length (cut base_entry_length 0 s)
-counts_done s rest {n} c h = rw (cut_done base_entry_length rest 0 (omega arith), add-zero) at c.all
+pub counts_done : (s : List ℕ) {at n : ℕ} → Counts s at n → length s ≤ at → n ≡ length (cut base_entry_length 0 s)
+counts_done s {at} {n} c h = rw (cut_done base_entry_length s at h, add-zero) at c.all

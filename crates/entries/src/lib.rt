@@ -4,7 +4,7 @@
 // definition stands in mps's specs/Layout.antt; the last entry may be cut short.
 #![tactic(auto)]
 
-ghost use Rattle.std.specs.Prelude.{◌≡◌, [], ◌∷◌, length, drop};
+ghost use Rattle.std.specs.Prelude.{◌≡◌, [], ◌∷◌, length};
 ghost use Rattle.mps.specs.Words.{cut};
 ghost use Rattle.mps.specs.Layout.{base_entry_length};
 
@@ -20,21 +20,14 @@ pub fn size(kind: u8) -> usize
     }
 }
 
-// What stands behind the first n bytes.
-fn behind(s: &[u8], n: usize) -> &[u8]
-    ensures { result.now ≡ drop n s.now }
-{
-    s.get(n..).unwrap_or(&[])
-}
-
-#[tactic(auto, using(crate::proofs::Laws::counts_first, crate::proofs::Laws::counts_less, crate::proofs::Laws::counts_next, crate::proofs::Laws::counts_done))]
+// By places: a slice of what is left, cut at each entry, took six times as long.
 pub fn count(s: &[u8]) -> usize
     ensures { result ≡ length (cut base_entry_length 0 s.now) }
 {
-    let mut rest = s;
+    let mut at = 0;
     let mut n = 0;
-    while let Some(kind) = rest.first() {
-        rest = behind(rest, size(*kind));
+    while let Some(kind) = s.get(at) {
+        at += size(*kind);
         n += 1;
     }
     n

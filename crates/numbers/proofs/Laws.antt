@@ -1,20 +1,17 @@
 -- Laws of little-endian numbers, for any width. Assumes nothing.
-use Prim.Native.Nat.{ℕ, zero, suc, ◌+◌, ◌-◌, ◌*◌, ◌/◌, ◌%◌, ◌^◌, ◌<◌, ◌≤◌, min}
+use Prim.Native.Nat.{ℕ, zero, suc, ◌+◌, ◌*◌, ◌/◌, ◌%◌, ◌^◌, ◌<◌, ◌≤◌}
 use mathlib.Core.Path.{◌≡◌, refl, ap, sym, ◌∙◌}
 use mathlib.Core.List.{List, [], ◌∷◌, ◌++◌, append_assoc, append-nil}
 use native.Mathlib.Omega.{arith}
 use native.Mathlib.Numerals.{add-one}
 use native.Mathlib.Nat.{zero-add, add-zero, suc-add, add_assoc, mul_assoc, one-le-pow, pow-suc, pow-succ', div-div-eq-div-mul, div-one}
 use lib.Arith.{mod-mul}
-use lib.ListN.{length, get_or, take, drop, set, replicate, drop_of_length-le}
-use lib.Dec.{leb}
-use borrow.Author.Tests.{leb-true, leb-false}
+use lib.ListN.{length, get_or, take, drop, set, replicate}
 use Rattle.std.specs.Int.{w16, w32, w64, from_le_bytes, to_le_bytes, byte_at, bytes_low_first}
 use lib.Seq.{drop-append_seam, drop-cons, get_or-drop, get_or-take, length-take-le, take_all, sets, sets-eq}
 use Rattle.mps.specs.Numbers.{le, bytes}
 use Rattle.laws.proofs.Stores.{sets_take, sets_past}
 use Rattle.laws.proofs.Parts.{alike}
-use Rattle.laws.proofs.Tests.{whether}
 
 -- ---- le
 
@@ -194,12 +191,8 @@ module _ (t w : List ℕ) (at k : ℕ) where
   pub put_next : k < length w → sets t (at + k) (drop k w) ≡ sets (set t (at + k) (get_or w k 0)) (at + (k + 1)) (drop (k + 1) w)
   put_next h = let e : at + suc k ≡ suc (at + k) = omega arith in rw (add-one, drop-cons w k 0 h, e)
 
-  pub put_done : min (length t - at) (length w) ≤ k → sets t (at + k) (drop k w) ≡ t
-  put_done h =
-      whether
-      (leb (length w) k)
-      (λ e. rw (drop_of_length-le w (leb-true (length w) k e)))
-      (λ e. let f = leb-false (length w) k e in sets_past t (at + k) (drop k w) (omega arith))
+  pub put_done : length t ≤ at + k → sets t (at + k) (drop k w) ≡ t
+  put_done h = sets_past t (at + k) (drop k w) h
 
 -- What was stored is read back.
 pub le_sets : (k n : ℕ) (s : List ℕ) (at : ℕ) → at + k ≤ length s → le k (sets s at (bytes k n)) at ≡ n % 256 ^ k

@@ -20,6 +20,13 @@ pub fn wide(x: u8) -> u64
     u64::from(x)
 }
 
+// How many bytes stand from a place on.
+fn left(s: &[u8], at: usize) -> usize
+    ensures { result ≡ length s.now - at }
+{
+    s.len().saturating_sub(at)
+}
+
 // What stands from a place on.
 fn from(s: &[u8], at: usize) -> &[u8]
     ensures { result.now ≡ drop at s.now }
@@ -27,20 +34,30 @@ fn from(s: &[u8], at: usize) -> &[u8]
     s.get(at..).unwrap_or(&[])
 }
 
-// The N bytes from a place on. Where all are there, no test stands between them, so that they are read by one load; those past
-// the end are 0.
-fn piece<const N: usize>(s: &[u8], at: usize) -> [u8; N]
+// What stands from a place on, where that is less than N bytes, and 0 past the end: the way for the few numbers that reach so
+// far. Not inlined, so that no other number has a buffer.
+#[inline(never)]
+fn padded<const N: usize>(s: &[u8], at: usize) -> [u8; N]
+    requires { length s.now - at ≤ N }
     ensures { le N result 0 ≡ le N s.now at }
 {
     let rest = from(s, at);
-    match rest.first_chunk() {
-        Some(all) => *all,
-        None => {
-            let mut padded = [0; N];
-            padded[..rest.len()].copy_from_slice(rest);
-            padded
+    let mut all = [0; N];
+    all[..rest.len()].copy_from_slice(rest);
+    all
+}
+
+// The N bytes from a place on. Where all are there, no test stands between them, so that they are read by one load.
+fn piece<const N: usize>(s: &[u8], at: usize) -> [u8; N]
+    requires { 0 < N }
+    ensures { le N result 0 ≡ le N s.now at }
+{
+    if N <= left(s, at) {
+        if let Some(all) = s[at..at + N].first_chunk() {
+            return *all;
         }
     }
+    padded(s, at)
 }
 
 #[tactic(auto, using(crate::proofs::Laws::from_two))]
@@ -66,9 +83,15 @@ pub fn le64(s: &[u8], at: usize) -> u64
 
 #[tactic(auto, using(crate::proofs::Laws::put_next, crate::proofs::Laws::put_done))]
 fn put<const N: usize>(out: &mut [u8], at: usize, x: [u8; N])
+    requires { 0 < N }
     ensures { out.new ≡ sets out.old at x.entry }
 {
-    for k in 0..out.len().saturating_sub(at).min(N) {
+    let room = left(out, at);
+    if N <= room {
+        out[at..at + N].copy_from_slice(&x);
+        return;
+    }
+    for k in 0..room {
         out[at + k] = x[k];
     }
 }

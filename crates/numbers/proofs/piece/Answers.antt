@@ -1,14 +1,12 @@
--- All of the bytes are there, or 0 stands for those that are not.
-use Rattle.numbers.proofs.Laws.{le_whole, le_padded}
+-- All of the bytes are there.
+use Rattle.std.proofs.Common.{◌≡◌, ◌+◌, ◌-◌, ◌∙◌, drop, arith}
+use Rattle.std.proofs.lemmas.List.{take-take}
+use Rattle.numbers.proofs.Laws.{le_whole}
 use Rattle.numbers.proofs.piece.Goals as goal
 
 pub returns-in-Some : goal.returns-in-Some
 returns-in-Some g c =
     let a = c.args in
-    let e = c.in-Some.ensures.cases.same in
-    le_whole g.row.N _ a.s.now a.at (rw c.from-rest.ensures at e)
-
-pub returns-in-None : goal.returns-in-None
-returns-in-None g c =
-    let a = c.args in
-    rw (c.copy_from_slice.ensures.after, c.from-rest.ensures) (le_padded g.row.N _ g.row.N a.s.now a.at)
+    let n = g.row.N in
+    let e : a.at + n - a.at ≡ n = omega arith in
+    le_whole n _ a.s.now a.at (c.in-Some.ensures.cases.same ∙ rw e (take-take n n (drop a.at a.s.now) (omega arith)))
