@@ -25,6 +25,7 @@ pub struct ExtendedSections {
 }
 
 // The place behind the whole extended entries of one known type that stand from `at` on and say the length of their type.
+// (One function with `run` of sections would take the test as a closure, with a contract about it: no plainer.)
 fn run_of(s: &[u8], at: usize, kind: u8) -> usize
     requires at_in_bounds { at ≤ length s.now }
     requires mapping_type_le_kind { mapping_type ≤ kind }

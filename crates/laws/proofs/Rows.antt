@@ -119,9 +119,6 @@ module _ {F : Type 0} {g : Mut F (Bor (List ℕ) × Unit {0}) Bool} (p : Entry �
 
 -- Where a loop over the pieces from a place on has come to.
 module _ (n : ℕ) (s : List ℕ) (place : ℕ) where
-  pub from_there : place ≤ length s → take (length s - place) (drop place s) ≡ drop place s
-  from_there h = take_all (length s - place) (drop place s) (omega (arith, length-drop place s))
-
   module _ (e left : List ℕ) (c : drop place s ≡ e ++ left) (h : length e ≡ n) where
     pub piece_fits : 0 < n → n ≤ length s - place
     piece_fits z = omega (arith, h, length-drop place s, ap length c, length-append e left)
