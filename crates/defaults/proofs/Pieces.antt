@@ -1,6 +1,6 @@
 -- The entries one by one, and stored one behind the other. Assumes nothing.
-use Prim.Native.Nat.{ℕ, ◌+◌, ◌*◌, ◌≤◌, ◌<◌}
-use mathlib.Core.Path.{◌≡◌, refl, sym, ap}
+use Prim.Native.Nat.{ℕ, ◌+◌, ◌≤◌, ◌<◌}
+use mathlib.Core.Path.{◌≡◌, refl}
 use mathlib.Core.Bool.{◌||◌}
 use mathlib.Core.Logic.{◌⊎◌, inl, inr}
 use mathlib.Core.List.{List, ◌∷◌, ◌++◌, append-nil}
@@ -35,15 +35,22 @@ bus_eisa n a b =
 
 -- ---- Entries stored one behind the other
 
+-- Bytes that are stored, and the place behind them.
+pub record Put (out : List ℕ) (at : ℕ) (w u : List ℕ) (end : ℕ) : Type 0 where
+  pub place : end ≡ at + length w
+  pub text : u ≡ sets out at w
+
+-- Bytes that are those of a definition.
+pub put_as : {out u v : List ℕ} {at end : ℕ} (w : List ℕ) → v ≡ w → end ≡ at + length v → u ≡ sets out at v → Put out at w u end
+put_as w e f g = record { place = rw e at f; text = rw e at g }
+
+pub then : {out u x : List ℕ} {at a b : ℕ} (v w : List ℕ) → Put out at v u a → Put u a w x b → Put out at (v ++ w) x b
+then {out} {at = at} v w p q =
+    record { place = omega (arith, p.place, q.place, length-append v w); text = sets_behind out at v w (omega (arith, p.place)) p.text q.text }
+
 processor_twenty : (apic boot id : ℕ) → length (processor_entry apic boot id) ≡ 20
 unfolding processor_entry
 processor_twenty apic boot id = refl
-
-pub processors_put :
-    (apic boot : ℕ) (out : List ℕ) {a b u v : List ℕ} → a ≡ processor_entry apic boot 0 → u ≡ sets out 0 a
-    → b ≡ processor_entry apic boot 1 → v ≡ sets u 20 b → v ≡ sets out 0 (processor_entry apic boot 0 ++ processor_entry apic boot 1)
-processors_put apic boot out e f g h =
-    sets_behind out 0 (processor_entry apic boot 0) (processor_entry apic boot 1) (omega (arith, processor_twenty apic boot 0)) (rw e at f) (rw g at h)
 
 pub first_eight : (n : ℕ) → length (first_bus n) ≡ 8
 unfolding first_bus text ISA EISA MCA
@@ -57,47 +64,23 @@ buses_two : (n : ℕ) → 5 ≤ n → buses_laid n ≡ first_bus n ++ (0x01 ∷ 
 unfolding buses_laid
 buses_two n h = rw (le-ltb n 5 h)
 
-module _ (n : ℕ) (out : List ℕ) (at : ℕ) {a u : List ℕ} (e : a ≡ first_bus n) (w : u ≡ sets out at a) where
-  pub one_bus : n < 5 → (at + 8 ≡ at + length (buses_laid n)) × (u ≡ sets out at (buses_laid n))
-  one_bus h = rw (buses_one n h) (rw (first_eight n) refl, rw e at w)
+module _ (n : ℕ) {out u : List ℕ} {at a : ℕ} (p : Put out at (first_bus n) u a) where
+  pub one_bus : n < 5 → Put out at (buses_laid n) u a
+  one_bus h = rw (buses_one n h) p
 
-  pub two_buses : 5 ≤ n → {v : List ℕ} → v ≡ sets u (at + 8) (0x01 ∷ 0x01 ∷ PCI)
-      → (at + 2 * 8 ≡ at + length (buses_laid n)) × (v ≡ sets out at (buses_laid n))
-  unfolding text PCI
-  two_buses h k =
-      let b : List ℕ = 0x01 ∷ 0x01 ∷ PCI in
-      let eight = first_eight n in
-      rw (buses_two n h) (
-        omega (arith, length-append (first_bus n) b, eight),
-        sets_behind out at (first_bus n) b (ap (λ (x : ℕ). at + x) (sym eight)) (rw e at w) k,
-      )
+  pub two_buses : 5 ≤ n → {x : List ℕ} {b : ℕ} → Put u a (0x01 ∷ 0x01 ∷ PCI) x b → Put out at (buses_laid n) x b
+  two_buses h q = rw (buses_two n h) (then (first_bus n) (0x01 ∷ 0x01 ∷ PCI) p q)
 
 -- ---- All of them
 
-pub all_length : length all_inputs ≡ 128
-unfolding all_inputs input_entry interrupt_entry joined rising
-all_length = refl
-
-piece_lengths : (length (part 0 16 all_inputs) ≡ 16) × (length (part 24 104 all_inputs) ≡ 80) × (length (part 112 128 all_inputs) ≡ 16)
-unfolding all_inputs input_entry interrupt_entry joined rising
-piece_lengths = (refl, refl, refl)
-
 -- Configuration 2 in three pieces.
 pub two_laid :
-    (out : List ℕ) (at : ℕ) {u v x : List ℕ} → u ≡ sets out at (part 0 16 all_inputs) → v ≡ sets u (at + 16) (part 24 104 all_inputs)
-    → x ≡ sets v (at + 96) (part 112 128 all_inputs) → (at + 112 ≡ at + length inputs_of2) × (x ≡ sets out at inputs_of2)
+    {out u v x : List ℕ} {at a b c : ℕ} → Put out at (part 0 16 all_inputs) u a → Put u a (part 24 104 all_inputs) v b
+    → Put v b (part 112 128 all_inputs) x c → Put out at inputs_of2 x c
 unfolding inputs_of2
-two_laid out at e f g =
-    let a = part 0 16 all_inputs in
-    let b = part 24 104 all_inputs in
-    let c = part 112 128 all_inputs in
-    let l = piece_lengths in
-    let rest = sets_behind _ _ b c (omega (arith, l.1)) f g in
-    (omega (arith, l.0, l.1, l.2, length-append a (b ++ c), length-append b c), sets_behind out at a (b ++ c) (omega (arith, l.0)) e rest)
-
-pub seven_length : length inputs_of7 ≡ 120
-unfolding inputs_of7 all_inputs input_entry interrupt_entry joined rising
-seven_length = refl
+two_laid p q r =
+    then (part 0 16 all_inputs) (part 24 104 all_inputs ++ part 112 128 all_inputs) p
+    (then (part 24 104 all_inputs) (part 112 128 all_inputs) q r)
 
 -- By the configuration.
 module _ (n : ℕ) where
@@ -131,44 +114,34 @@ chip_eight : (apic : ℕ) → length (io_apic_entry apic) ≡ 8
 unfolding io_apic_entry bytes
 chip_eight apic = refl
 
-locals_sixteen : length locals_laid ≡ 16
-unfolding locals_laid interrupt_entry
-locals_sixteen = refl
-
 pub front_laid_lem :
-    (n boot : ℕ) (out : List ℕ) {apic a : ℕ} {chip u v x : List ℕ} → apic ≡ apic_of n
-    → u ≡ sets out 0 (processor_entry apic boot 0 ++ processor_entry apic boot 1)
-    → (a ≡ 40 + length (buses_laid n)) × (v ≡ sets u 40 (buses_laid n))
-    → chip ≡ io_apic_entry apic → x ≡ sets v a chip
-    → ((a + 8 ≡ length (front_laid n boot)) × (a + 8 ≤ 64)) × (x ≡ sets out 0 (front_laid n boot))
+    (n boot : ℕ) {out u v x y : List ℕ} {a b c d apic : ℕ} → apic ≡ apic_of n
+    → Put out 0 (processor_entry apic boot 0) u a → Put u a (processor_entry apic boot 1) v b
+    → Put v b (buses_laid n) x c → Put x c (io_apic_entry apic) y d
+    → Put out 0 (front_laid n boot) y d × (d ≤ 64)
 unfolding front_laid
-front_laid_lem n boot out e p q f c =
+front_laid_lem n boot {d = d} e p q r s =
     let apic = apic_of n in
     let first = processor_entry apic boot 0 in
     let second = processor_entry apic boot 1 in
-    let both = first ++ second in
-    let buses = buses_laid n in
     let chip = io_apic_entry apic in
-    let eight = chip_eight apic in
-    let forty : length both ≡ 40 = omega (arith, length-append first second, processor_twenty apic boot 0, processor_twenty apic boot 1) in
-    let rest = sets_behind _ _ buses chip q.0 q.1 (rw (f, e) at c) in (
-      (
-        omega (arith, q.0, eight, forty, length-append both (buses ++ chip), length-append buses chip),
-        omega (arith, q.0, buses_bound n),
-      ),
-      sets_behind out 0 both (buses ++ chip) (omega (arith, forty)) (rw e at p) rest,
-    )
+    let all = then (first ++ second) (buses_laid n ++ chip) (then first second (rw e at p) (rw e at q)) (then (buses_laid n) chip r (rw e at s)) in
+    let short : d ≤ 64 =
+    omega (
+      arith,
+      all.place,
+      length-append (first ++ second) (buses_laid n ++ chip),
+      length-append first second,
+      length-append (buses_laid n) chip,
+      processor_twenty apic boot 0,
+      processor_twenty apic boot 1,
+      chip_eight apic,
+      buses_bound n,
+    ) in
+    (all, short)
 
 pub all_laid :
-    (n boot : ℕ) (out : List ℕ) {a b : ℕ} {u v x : List ℕ} → a ≡ length (front_laid n boot) → u ≡ sets out 0 (front_laid n boot)
-    → (b ≡ a + length (inputs_laid n)) × (v ≡ sets u a (inputs_laid n))
-    → x ≡ sets v b locals_laid
-    → (b + 2 * 8 ≡ length (laid n boot)) × (x ≡ sets out 0 (laid n boot))
+    (n boot : ℕ) {out u v x : List ℕ} {a b c : ℕ} → Put out 0 (front_laid n boot) u a
+    → Put u a (inputs_laid n) v b → Put v b locals_laid x c → Put out 0 (laid n boot) x c
 unfolding laid
-all_laid n boot out e p i l =
-    let front = front_laid n boot in
-    let wires = inputs_laid n in
-    let locals = sets_behind _ _ wires locals_laid i.0 i.1 l in (
-      omega (arith, e, i.0, locals_sixteen, length-append front (wires ++ locals_laid), length-append wires locals_laid),
-      sets_behind out 0 front (wires ++ locals_laid) (omega (arith, e)) p locals,
-    )
+all_laid n boot p q r = then (front_laid n boot) (inputs_laid n ++ locals_laid) p (then (inputs_laid n) locals_laid q r)

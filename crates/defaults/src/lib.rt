@@ -12,7 +12,7 @@ ghost use Rattle.std.specs.Prelude.{◌≡◌, ◌++◌, ◌+◌, ◌*◌, ◌�
 ghost use Rattle.std.proofs.lemmas.List.Edits.{sets};
 ghost use Rattle.mps.specs.Words.{flag};
 ghost use Rattle.mps.specs.Defaults.{processor_entry, io_apic_entry, made, make_left};
-ghost use Rattle.defaults.specs.Laid.{apic_of, first_bus, buses_laid, all_inputs, inputs_of2, inputs_of7, inputs_laid, front_laid, laid};
+ghost use Rattle.defaults.specs.Laid.{apic_of, first_bus, buses_laid, inputs_laid, front_laid, laid};
 
 use mps::{Fields, Refusal, layout};
 
@@ -71,6 +71,16 @@ pub fn make(number: u8, boot: u8, room: &mut [u8]) -> Result<usize, Refusal>
     writer::write(FIELDS, &base[..size], &[], room)
 }
 
+// Stores bytes, and answers the place behind them. The bounds keep sums below 2^64; larger ones would do as well.
+fn put(out: &mut [u8], at: usize, s: &[u8]) -> usize
+    requires { (at ≤ 1000) × (length s.now ≤ 1000) }
+    ensures value { result ≡ at + length s.now }
+    ensures out_after { out.new ≡ sets out.old at s.now }
+{
+    slices::copy(out, at, s);
+    at + s.len()
+}
+
 // The base entries, from the first byte on. Answers their length.
 fn lay(out: &mut [u8], number: u8, boot: u8) -> usize
     ensures value { result ≡ length (laid number boot) }
@@ -78,8 +88,7 @@ fn lay(out: &mut [u8], number: u8, boot: u8) -> usize
 {
     let front = put_front(out, number, boot);
     let end = put_inputs(out, front, number);
-    slices::copy(out, end, &LOCALS);
-    end + 2 * layout::ENTRY_SIZE
+    put(out, end, &LOCALS)
 }
 
 // The entries before the interrupts.
@@ -88,10 +97,10 @@ fn put_front(out: &mut [u8], number: u8, boot: u8) -> usize
     ensures out_after { out.new ≡ sets out.old 0 (front_laid number boot) }
 {
     let apic = version(number);
-    put_processors(out, apic, boot);
-    let end = put_buses(out, 2 * layout::PROCESSOR_SIZE, number);
-    slices::copy(out, end, &io_apic(apic));
-    end + layout::ENTRY_SIZE
+    let first = put(out, 0, &processor(apic, boot, 0));
+    let second = put(out, first, &processor(apic, boot, 1));
+    let end = put_buses(out, second, number);
+    put(out, end, &io_apic(apic))
 }
 
 // The 82489DX in 1 to 4, the integrated APIC in 5 to 7.
@@ -100,13 +109,6 @@ fn version(number: u8) -> u8
     ensures { result ≡ apic_of number }
 {
     if number < 5 { 0x01 } else { 0x10 }
-}
-
-fn put_processors(out: &mut [u8], apic: u8, boot: u8)
-    ensures { out.new ≡ sets out.old 0 (processor_entry apic boot 0 ++ processor_entry apic boot 1) }
-{
-    slices::copy(out, 0, &processor(apic, boot, 0));
-    slices::copy(out, layout::PROCESSOR_SIZE, &processor(apic, boot, 1));
 }
 
 fn processor(apic: u8, boot: u8, id: u8) -> [u8; 20]
@@ -126,18 +128,14 @@ fn flags(boot: u8, id: u8) -> u8
     1 + 2 * u8::from(id == boot)
 }
 
-// Table 5-1, "Bus Type". The bound on the place keeps sums below 2^64, here and below; a larger one would do as well.
+// Table 5-1, "Bus Type".
 fn put_buses(out: &mut [u8], at: usize, number: u8) -> usize
-    requires { at ≤ 1000 }
+    requires { at ≤ 500 }
     ensures value { result ≡ at + length (buses_laid number) }
     ensures out_after { out.new ≡ sets out.old at (buses_laid number) }
 {
-    slices::copy(out, at, &first_bus(number));
-    if number < 5 {
-        return at + layout::ENTRY_SIZE;
-    }
-    slices::copy(out, at + layout::ENTRY_SIZE, &PCI);
-    at + 2 * layout::ENTRY_SIZE
+    let end = put(out, at, &first_bus(number));
+    if number < 5 { end } else { put(out, end, &PCI) }
 }
 
 fn first_bus(number: u8) -> [u8; 8]
@@ -157,46 +155,19 @@ fn io_apic(apic: u8) -> [u8; 8]
     [layout::IO_APIC_TYPE, 2, apic, 1, 0x00, 0x00, 0xc0, 0xfe]
 }
 
-// Table 5-2. Answers the place behind the last entry.
+// Table 5-2: in 2 "neither timer IRQ0 nor DMA chaining", all but INTIN2 and INTIN13; in 7 all but INTIN0.
 fn put_inputs(out: &mut [u8], at: usize, number: u8) -> usize
-    requires { at ≤ 1000 }
+    requires { at ≤ 500 }
     ensures value { result ≡ at + length (inputs_laid number) }
     ensures out_after { out.new ≡ sets out.old at (inputs_laid number) }
 {
     match number {
-        2 => put_inputs_of_2(out, at),
-        7 => put_inputs_of_7(out, at),
-        _ => put_all_inputs(out, at),
+        2 => {
+            let two = put(out, at, &INPUTS[..16]);
+            let twelve = put(out, two, &INPUTS[24..104]);
+            put(out, twelve, &INPUTS[112..])
+        }
+        7 => put(out, at, &INPUTS[8..]),
+        _ => put(out, at, &INPUTS),
     }
-}
-
-fn put_all_inputs(out: &mut [u8], at: usize) -> usize
-    requires { at ≤ 1000 }
-    ensures value { result ≡ at + length all_inputs }
-    ensures out_after { out.new ≡ sets out.old at all_inputs }
-{
-    slices::copy(out, at, &INPUTS);
-    at + 16 * layout::ENTRY_SIZE
-}
-
-// "Neither timer IRQ0 nor DMA chaining": all but INTIN2 and INTIN13.
-fn put_inputs_of_2(out: &mut [u8], at: usize) -> usize
-    requires { at ≤ 1000 }
-    ensures value { result ≡ at + length inputs_of2 }
-    ensures out_after { out.new ≡ sets out.old at inputs_of2 }
-{
-    slices::copy(out, at, &INPUTS[..16]);
-    slices::copy(out, at + 16, &INPUTS[24..104]);
-    slices::copy(out, at + 96, &INPUTS[112..]);
-    at + 14 * layout::ENTRY_SIZE
-}
-
-// All but INTIN0.
-fn put_inputs_of_7(out: &mut [u8], at: usize) -> usize
-    requires { at ≤ 1000 }
-    ensures value { result ≡ at + length inputs_of7 }
-    ensures out_after { out.new ≡ sets out.old at inputs_of7 }
-{
-    slices::copy(out, at, &INPUTS[8..]);
-    at + 15 * layout::ENTRY_SIZE
 }

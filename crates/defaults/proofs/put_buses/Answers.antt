@@ -1,14 +1,23 @@
--- One bus, or two.
+-- By whether there is a second bus.
+use mathlib.Core.Path.{refl}
 use Rattle.mps.specs.Words.{text}
 use Rattle.mps.specs.Defaults.{PCI}
-use Rattle.defaults.proofs.Pieces.{one_bus, two_buses}
+use Rattle.defaults.specs.Laid.{first_bus}
+use Rattle.defaults.proofs.Pieces.{put_as, one_bus, two_buses}
 use Rattle.defaults.proofs.put_buses.Goals as goal
 
 pub returns-then-number-lt5 : goal.returns-then-number-lt5
 returns-then-number-lt5 c =
-    let both = one_bus _ _ _ c.first_bus.ensures c.copy.ensures c.if-number-lt5.true in record { value = both.0; out_after = both.1 }
+    let p = c.put-end.ensures in
+    let n = c.args.number in
+    let both = one_bus n (put_as (first_bus n) c.first_bus.ensures p.value p.out_after) c.if-number-lt5.true in
+    record { value = both.place; out_after = both.text }
 
-pub returns : goal.returns
+pub returns-else-number-lt5 : goal.returns-else-number-lt5
 unfolding text PCI
-returns c =
-    let both = two_buses _ _ _ c.first_bus.ensures c.copy.ensures c.if-number-lt5.false c.copy-2.ensures in record { value = both.0; out_after = both.1 }
+returns-else-number-lt5 c =
+    let p = c.put-end.ensures in
+    let q = c.put.ensures in
+    let n = c.args.number in
+    let both = two_buses n (put_as (first_bus n) c.first_bus.ensures p.value p.out_after) c.if-number-lt5.false (put_as _ refl q.value q.out_after) in
+    record { value = both.place; out_after = both.text }
