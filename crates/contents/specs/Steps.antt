@@ -1,5 +1,4 @@
--- What the steps of `sound` answer: the rows that are left, the two rules of the regions together as one test of two, and
--- where the last body ends. A reader need not believe them: the contract of `sound` does not cite them.
+-- What the steps of `sound` answer: the two rules of the regions together as one test of two, and where the last body ends. A reader need not believe them: the contract of `sound` does not cite them.
 use Rattle.std.specs.Prelude.{ℕ, ◌+◌, Bool, not, cond, ◌||◌, ◌&&◌, List, [], ◌∷◌, Option, None, Some}
 use Rattle.mps.specs.Words.{any, each}
 use Rattle.mps.specs.Sums.{total}

@@ -4,7 +4,7 @@
 // specs/Steps.antt; proofs/Laws.antt has what a caller may use of a sound dump and its regions, proofs/Listed.antt what a loop
 // over the rows needs.
 //
-// Every row is read where it stands, as often as it is needed (`regions::Rows`): no array of regions is filled, and none is
+// Every row is read where it stands, as often as it is needed (`regions::rows`): no array of regions is filled, and none is
 // copied.
 #![tactic(auto)]
 
@@ -16,7 +16,8 @@ ghost use Rattle.contents.specs.Steps.{clashing, fitted};
 ghost use Rattle.regions.specs.Walk.{listed};
 
 use mps::{Region, layout};
-use regions::Rows;
+use regions::rows;
+use regions::rows::Rows;
 
 // "base plus length", with no wrap at 2^32.
 fn end_of(r: Region) -> u64
@@ -56,7 +57,7 @@ fn clash(r: Region, q: Region) -> bool
 fn clashes(r: Region, behind: &Rows) -> bool
     ensures { result ≡ any (clashing r) behind.now }
 {
-    regions::again(behind).any(|q| clash(r, q))
+    rows::again(behind).any(|q| clash(r, q))
 }
 
 // Where the last body ends; none where a region breaks a rule by itself or with another.
@@ -65,7 +66,7 @@ fn last_end(d: &[u8]) -> Option<usize>
     ensures { result ≡ fitted (contents_end d.now) (listed d.now) }
 {
     let mut end = 1 + layout::ROW_LENGTH * numbers::byte(d, layout::REGION_COUNT) as usize;
-    let mut left = regions::of_dump(d);
+    let mut left = rows::of_dump(d);
     while let Some(r) = left.next() {
         if !sound_region(r) {
             return None;

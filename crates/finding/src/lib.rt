@@ -17,7 +17,7 @@ ghost use Rattle.regions.specs.Regions.{eight};
 ghost use Rattle.finding.specs.Spotted.{or_blank, searched_first, Fits, Spots, SpotsAt};
 
 use mps::{Held, Refusal, Region, layout};
-use regions::BLANK;
+use regions::{BLANK, rows};
 
 // Where the first good pointer was met: its address, and its first byte's place in the dump.
 #[derive(Clone, Copy)]
@@ -77,7 +77,7 @@ fn of_kind(d: &[u8], kind: u8) -> Option<Region>
     requires { sound_dump d.now ≡ true }
     ensures { result ≡ find (is_of_kind kind) (regions_of d.now) }
 {
-    regions::of_dump(d).find(|r| r.kind == kind)
+    rows::of_dump(d).find(|r| r.kind == kind)
 }
 
 fn spot_in(d: &[u8], r: Option<Region>) -> Option<Spotted>
@@ -99,7 +99,7 @@ fn records(d: &[u8]) -> [Region; 8]
     ensures { result ≡ eight (regions_of d.now) }
 {
     let mut rs = [BLANK; 8];
-    for (i, r) in regions::of_dump(d).enumerate() {
+    for (i, r) in rows::of_dump(d).enumerate() {
         rs[i] = r;
     }
     rs

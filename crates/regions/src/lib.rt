@@ -15,9 +15,8 @@ ghost use Rattle.mps.specs.Dump.{holding as holding_of};
 ghost use Rattle.regions.specs.Regions.{row_of, place_holding};
 
 use mps::{Region, layout};
-pub use rows::{Rows, again, of_dump};
 
-mod rows; // the regions of a dump, one behind the other
+pub mod rows; // the regions of a dump, one behind the other
 
 // A record that is not filled.
 pub const BLANK: Region = Region {
