@@ -55,6 +55,8 @@ use Rattle.regions.proofs.row.Reads as regions_row
 use Rattle.regions.specs.contracts.place_of as regions_place_of
 use Rattle.regions.proofs.place_in.Reads as regions_place_in
 use Rattle.regions.proofs.holding.Reads as regions_holding
+use Rattle.regions.specs.contracts.rows.of_dump as regions_rows_of_dump
+use Rattle.regions.specs.contracts.rows.again as regions_rows_again
 use Rattle.contents.proofs.sound.Reads as contents_sound
 use Rattle.pointers.proofs.search.Reads as pointers_search
 use Rattle.finding.proofs.find.Reads as finding_find
@@ -84,6 +86,7 @@ use Rattle.listing.proofs.list.Reads as listing_list
 use Rattle.listing.proofs.full.Reads as listing_full
 use Rattle.listing.proofs.print.Reads as listing_print
 use Rattle.editor.proofs.edit.Reads as editor_edit
+use Rattle.rows.proofs.read.Reads as rows_read
 use Rattle.rows.proofs.latest.Reads as rows_latest
 use Rattle.rows.proofs.find.Reads as rows_find
 use Rattle.rows.proofs.run.Reads as rows_run
@@ -320,6 +323,12 @@ regions_place_in_determined κ a x y s t p q = p ∙ sym q
 pub regions_holding_determined : Answers regions_holding.Post
 regions_holding_determined κ a x y s t p q = p ∙ sym q
 
+pub regions_rows_of_dump_determined : Decides regions_rows_of_dump.ended (λ M 𝓤 𝓛. regions_rows_of_dump.clauses 𝓛)
+regions_rows_of_dump_determined M 𝓤 𝓛 mem run κs a g x y s t = both_are 𝓤 x y _
+
+pub regions_rows_again_determined : Decides regions_rows_again.ended (λ M 𝓤 𝓛. regions_rows_again.clauses 𝓛)
+regions_rows_again_determined M 𝓤 𝓛 mem run κs a g x y s t = both_are 𝓤 x y _
+
 -- ---- contents
 
 pub contents_sound_determined : Answers contents_sound.Post
@@ -434,6 +443,9 @@ pub editor_edit_determined : Determines editor_edit.Post (λ κ s. s.0.now)
 editor_edit_determined κ a x y s t p q = (p.0 ∙ sym q.0, p.1 ∙ sym q.1)
 
 -- ---- rows
+
+pub rows_read_determined : Answers rows_read.Post
+rows_read_determined κ a x y s t p q = p ∙ sym q
 
 pub rows_latest_determined : Answers rows_latest.Post
 rows_latest_determined κ a x y s t p q = p ∙ sym q
