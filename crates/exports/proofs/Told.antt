@@ -330,6 +330,7 @@ read_told d small = cases (held d) refl
     refusals : (n : ℕ) → (0 < n) × (n < 256) × (eqb n inner_number ≡ false) → held_in (coded held_row (n ∷ [])) (packed addresses_row []) ≡ n ∷ []
     refusals zero h = absurd (omega (arith, h))
     refusals (suc n) h = held_told (suc n) [] [] h.1 (omega arith) (omega arith)
+
     cases : (r : Result Held Refusal) → held d ≡ r → held_in (held_code r) (addresses_code r) ≡ held_numbers r
     cases (Ok (Default zero b)) q = absurd (omega (arith, (default_narrow d zero b q).0))
     cases (Ok (Default (suc n) b)) q =

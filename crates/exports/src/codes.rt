@@ -212,13 +212,15 @@ pub(super) fn addresses_code(answer: Result<Held, Refusal>) -> u64
     ensures { result ≡ addresses_code answer }
 {
     match answer {
-        Ok(Held::Table {
-            pointer,
-            imcr,
-            address,
-            start,
-            end,
-        }) => address as u64 + FOUR_BYTES * pointer as u64,
+        Ok(
+            Held::Table {
+                pointer,
+                imcr,
+                address,
+                start,
+                end,
+            },
+        ) => address as u64 + FOUR_BYTES * pointer as u64,
         Ok(Held::Default { number, imcr }) => 0,
         Err(refusal) => 0,
     }

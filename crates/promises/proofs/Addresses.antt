@@ -133,11 +133,12 @@ seen_climbed t bus kind address a l k =
     let xs = extended_entries t in
     let left = length (ids_of bus_type es) - 1 in
     let o = (obeyed t a).parents in
-    let enough = seen_enough es xs o.listed o.rising bus l kind address 1 in
-    (sym (seen_answered t bus kind address a l k),
-    rw (← enough)
-    (climbed t bus kind address (left + 1) _ (way xs kind address (left + 1) bus 0)
-    (rw enough (omega (arith, links_climb left xs bus kind address 0)))))
+    let enough = seen_enough es xs o.listed o.rising bus l kind address 1 in (
+      sym (seen_answered t bus kind address a l k),
+      rw (← enough)
+          (climbed t bus kind address (left + 1) _ (way xs kind address (left + 1) bus 0)
+          (rw enough (omega (arith, links_climb left xs bus kind address 0)))),
+    )
 
 -- "by the definition that is at most the listed buses less one"
 pub seen_links : (t : List ℕ) (bus kind address : ℕ) → links_of (seen t bus kind address) ≤ length (ids_of bus_type (base_entries t)) - 1

@@ -88,9 +88,9 @@ module _ (t : List ℕ) (e : Edit) where
   unfolding inner_of
   inner_exactly r = (
     λ d.
-    let k = number_edited t e d in
-    let some : inner_refusal t e ≡ 0 → ⊥ = λ z. true≢false (sym (given_23.0 k).1 ∙ rw (eq-eqb (inner_refusal t e) 0 z)) in
-    (k, sym (number_numbered (inner_refusal t e) some (inner_known t e)) ∙ ap inner_of (sym (answered t e k) ∙ d)),
+        let k = number_edited t e d in
+        let some : inner_refusal t e ≡ 0 → ⊥ = λ z. true≢false (sym (given_23.0 k).1 ∙ rw (eq-eqb (inner_refusal t e) 0 z)) in
+        (k, sym (number_numbered (inner_refusal t e) some (inner_known t e)) ∙ ap inner_of (sym (answered t e k) ∙ d)),
     λ h. answered t e h.0 ∙ rw (h.1, numbered_number r),
   )
 

@@ -210,7 +210,6 @@ module _ (n boot : ℕ) (room : List ℕ) where
   make_number = answered_number _ (make_refusal n boot room) _ (known (make_refusal n boot room) make_numbers refl make_numbered.known)
 
 module _ (d : List ℕ) (boot : ℕ) (room : List ℕ) where
-
   full_among : among (full_refusal d boot room) (0 ∷ full_numbers) ≡ true
   unfolding full_refusal lent_refusal room_rules full_rules dump_rules pointer_rules each
   full_among =
@@ -269,7 +268,6 @@ module _ (p : Parts) (room : List ℕ) (early : early_refusal p room ≡ 0) wher
   image_number = refusal_passed (take 5 (table_rules (image p))) (drop 5 (table_rules (image p))) image_passes
 
 module _ (p : Parts) (room : List ℕ) where
-
   early_among : among (early_refusal p room) (0 ∷ 7 ∷ 13 ∷ 19 ∷ []) ≡ true
   unfolding early_refusal lent_refusal room_rules part_rules each
   early_among = refusal_among (room_rules (part_rules p) (too_small (image_size p) room))
