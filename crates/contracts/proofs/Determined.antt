@@ -451,7 +451,7 @@ pub rows_latest_determined : Answers rows_latest.Post
 rows_latest_determined κ a x y s t p q = p ∙ sym q
 
 pub rows_find_determined : Answers rows_find.Post
-rows_find_determined κ a x y s t p q = p ∙ sym q
+rows_find_determined κ a x y s t p q = p.0 ∙ sym q.0
 
 pub rows_run_determined : Answers rows_run.Post
 rows_run_determined κ a x y s t p q = p ∙ sym q
