@@ -232,6 +232,7 @@ fn of_side(t: &[u8], p: Sections, side: Side, wire: &Wire, out: &mut [u8]) -> Re
 
 // The same of one side's parts: its APICs, entries of `size` bytes, and its interrupt entries. 256 places hold any IDs of
 // which no two are the same.
+// The wire is copied: what is lent may lie in the room, for all that the back end knows, and is read anew for each entry.
 fn answer(
     targets: &[u8],
     size: usize,
@@ -250,10 +251,11 @@ fn answer(
         ids: &list[0..n],
         roll: &roll,
     };
-    if !has_room(out.len(), entries, wire, targets) {
+    let asked = *wire;
+    if !has_room(out.len(), entries, &asked, targets) {
         return Err(Refusal::RoomTooSmall);
     }
-    Ok(write(out, entries, wire, targets) / layout::PAIR_SIZE)
+    Ok(write(out, entries, &asked, targets) / layout::PAIR_SIZE)
 }
 
 // The enabled APICs, of entries of `size` bytes each: they are put on the roll, and their IDs stand in `ids` from its first
