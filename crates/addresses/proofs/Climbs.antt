@@ -1,5 +1,5 @@
 -- The list of parents, and that the climb over marks, parents and what is said below is mps's `climb`. Assumes nothing.
-use Prim.Native.Nat.{ℕ, zero, suc, ◌+◌, ◌-◌, ◌≤◌, ◌<◌}
+use Prim.Native.Nat.{ℕ, zero, suc, ◌+◌, ◌-◌, ◌<◌}
 use mathlib.Core.Path.{◌≡◌, refl, ap, sym, ◌∙◌}
 use mathlib.Core.Bool.{Bool, true, false, cond, true≢false, false≢true}
 use mathlib.Core.Logic.{◌⊎◌, inl, inr}
@@ -137,31 +137,32 @@ ends_own (suc (suc (suc zero))) kept climbed n = absurd (n refl)
 ends_own (suc (suc (suc (suc mark)))) kept climbed n = refl
 
 -- The steps of the climb: the bus asks its parent, no bus is left, or it does not ask.
-module _ (marks parents below : List ℕ) where
-  pub climb_up : (left bus kept climbed up said : ℕ) → climbed < left → byte marks bus ≡ 2 → up ≡ byte parents bus → said ≡ narrowed kept (byte below up)
-      → instead said (climb_in (left - (climbed + 1)) marks parents below up (climbed + 1)) ≡ instead kept (climb_in (left - climbed) marks parents below bus climbed)
+module _ (marks parents below : List ℕ) (bus at climbed kept left : ℕ) (b : at ≡ bus) where
+  pub climb_up : {up at_up said : ℕ} {r : Seen} → 0 < left → byte marks at ≡ 2 → up ≡ byte parents at → at_up ≡ up → said ≡ narrowed kept (byte below at_up)
+      → r ≡ instead said (climb_in (left - 1) marks parents below up (climbed + 1))
+      → r ≡ instead kept (climb_in left marks parents below bus climbed)
   unfolding climb_in
-  climb_up left bus kept climbed up said h m u n =
-      let more : left - climbed ≡ suc (left - (climbed + 1)) = omega (arith, h) in
-      rw (more, climb_in, m, n, u) (instead_left kept (byte below (byte parents bus)) _)
+  climb_up {up} h m u a n e =
+      let more : left ≡ suc (left - 1) = omega (arith, h) in
+      rw (more, climb_in, ← b, m, ← u) ((rw (n, a) at e) ∙ instead_left kept (byte below up) _)
 
   -- A bus that does not ask, or has none left to ask, answers by itself: by the mark for yes where it sees the address.
-  module _ (left bus kept climbed : ℕ) (e : (left ≤ climbed) ⊎ (byte marks bus ≡ 2 → ⊥)) where
-    climb_own : (k : ℕ) → (k ≡ 0) ⊎ (byte marks bus ≡ 2 → ⊥) → climb_in k marks parents below bus climbed ≡ answer (meaning (byte marks bus)) climbed (Undeclared climbed)
+  module _ (e : (left ≡ 0) ⊎ (byte marks at ≡ 2 → ⊥)) where
+    climb_own : climb_in left marks parents below bus climbed ≡ answer (meaning (byte marks at)) climbed (Undeclared climbed)
     unfolding climb_in
-    climb_own zero e = refl
-    climb_own (suc k) (inl z) = absurd (omega (arith, z))
-    climb_own (suc k) (inr n) = own_answer (byte marks bus) climbed _ _ n
+    climb_own = rw (← b) (own left e)
+      where
+        own : (k : ℕ) → (k ≡ 0) ⊎ (byte marks at ≡ 2 → ⊥) → climb_in k marks parents below at climbed ≡ answer (meaning (byte marks at)) climbed (Undeclared climbed)
+        own zero e = refl
+        own (suc k) (inl z) = absurd (omega (arith, z))
+        own (suc k) (inr n) = own_answer (byte marks at) climbed _ _ n
 
-    at_end : (left - climbed ≡ 0) ⊎ (byte marks bus ≡ 2 → ⊥)
-    at_end = elim e [ inl h ↦ inl (omega (arith, h)) | inr n ↦ inr n ]
+    pub climb_yes : byte marks at ≡ 3 → answer (meaning kept) climbed (Undeclared climbed) ≡ instead kept (climb_in left marks parents below bus climbed)
+    climb_yes s = ends_yes (byte marks at) kept climbed s ∙ ap (instead kept) (sym climb_own)
 
-    pub climb_yes : byte marks bus ≡ 3 → answer (meaning kept) climbed (Undeclared climbed) ≡ instead kept (climb_in (left - climbed) marks parents below bus climbed)
-    climb_yes s = ends_yes (byte marks bus) kept climbed s ∙ ap (instead kept) (sym (climb_own (left - climbed) at_end))
-
-    pub climb_no : (byte marks bus ≡ 3 → ⊥)
-        → answer (meaning (byte marks bus)) climbed (Undeclared climbed) ≡ instead kept (climb_in (left - climbed) marks parents below bus climbed)
-    climb_no s = ends_own (byte marks bus) kept climbed s ∙ ap (instead kept) (sym (climb_own (left - climbed) at_end))
+    pub climb_no : (byte marks at ≡ 3 → ⊥)
+        → answer (meaning (byte marks at)) climbed (Undeclared climbed) ≡ instead kept (climb_in left marks parents below bus climbed)
+    climb_no s = ends_own (byte marks at) kept climbed s ∙ ap (instead kept) (sym climb_own)
 
 -- What is left of an answer by what is said below, where that tells whether one claims the address and whether one is silent.
 left_spoken : (claim silence : Bool) (x : Seen) → left_by (spoken claim silence) x ≡ unclaimed claim silence x

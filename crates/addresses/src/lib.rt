@@ -6,10 +6,11 @@
 //
 // One pass over the entries gathers what each bus says of the address by itself and its parent, one over the links what the
 // buses below each say (`marks`); then the climb goes from bus to bus. So the cost is that of the table, however long the chain
-// of parents is, and however many buses have one parent.
+// of parents is, and however many buses have one parent. The climb lends on three arrays and hands its answer on, so that it is a
+// loop when it runs, and takes no stack for a link.
 #![tactic(auto)]
 
-ghost use Rattle.std.specs.Prelude.{◌≡◌};
+ghost use Rattle.std.specs.Prelude.{◌≡◌, ◌+◌, ◌^◌, ◌<◌};
 ghost use Rattle.mps.specs.Layout.{mapping_size, link_size};
 ghost use Rattle.mps.specs.Sections.{rows};
 ghost use Rattle.mps.specs.Judge.{table_refusal};
@@ -17,7 +18,7 @@ ghost use Rattle.mps.specs.Addresses.{answer, seen as is_seen};
 ghost use Rattle.mps.specs.declared.Seen.TheVariants.{Undeclared};
 ghost use Rattle.judge.specs.Placed.{Placed};
 ghost use Rattle.marks.specs.Marks.{meaning};
-ghost use Rattle.addresses.specs.Climbing.{climb_in, climb_over, narrowed};
+ghost use Rattle.addresses.specs.Climbing.{climb_in, climb_over, narrowed, instead};
 
 use marks::{DECLARED, FREE, PARENT, SEES, SILENT, UNDECLARED};
 use mps::{Refusal, Sections, Seen, layout};
@@ -82,7 +83,7 @@ fn ask(
         kind,
         address,
     );
-    climb(&marks, &parents, &below, bus, left)
+    climb(&marks, &parents, &below, bus, left, 0, SEES)
 }
 
 // A bus's own answer: one that would ask on and cannot has none.
@@ -108,19 +109,35 @@ fn narrow(kept: u8, said: u8) -> u8
     }
 }
 
-// "the parent's answer, if the bus has the subtractive bit". `left` are the listed buses not visited yet; `kept` is the mark
-// that the links climbed so far leave for a yes. No `for`: the links climbed are a part of the answer.
-fn climb(marks: &[u8; 256], parents: &[u8; 256], below: &[u8; 256], bus: u8, left: usize) -> Seen
-    ensures { result ≡ climb_in left marks.now parents.now below.now bus 0 }
+// "the parent's answer, if the bus has the subtractive bit". `left` are the listed buses not visited yet; it falls. `kept` is
+// the mark that the links climbed so far leave for a yes.
+fn climb(
+    marks: &[u8; 256],
+    parents: &[u8; 256],
+    below: &[u8; 256],
+    bus: u8,
+    left: usize,
+    climbed: usize,
+    kept: u8,
+) -> Seen
+    requires { climbed + left < 2 ^ 64 }
+    ensures { result ≡ instead kept (climb_in left marks.now parents.now below.now bus climbed) }
 {
-    let mut at = usize::from(bus);
-    let mut kept = SEES;
-    let mut climbed = 0;
-    while climbed < left && marks[at] == PARENT {
-        at = usize::from(parents[at]);
-        kept = narrow(kept, below[at]);
-        climbed += 1;
+    let at = usize::from(bus);
+    let mark = marks[at];
+    if left > 0 && mark == PARENT {
+        let up = parents[at];
+        let said = below[usize::from(up)];
+        return climb(
+            marks,
+            parents,
+            below,
+            up,
+            left - 1,
+            climbed + 1,
+            narrow(kept, said),
+        );
     }
-    let mark = if marks[at] == SEES { kept } else { marks[at] };
-    own(mark, climbed)
+    let end = if mark == SEES { kept } else { mark };
+    own(end, climbed)
 }

@@ -30,10 +30,10 @@ impl Head {
     // The head of the next request. A failed read cuts a request short, even before its first byte.
     pub fn read<R: Read>(input: &mut R) -> Result<Head, End> {
         let mut bytes = [0; HEAD_SIZE];
-        match input.read(&mut bytes[..1]) {
+        match input.read(&mut bytes) {
             Ok(0) => Err(End::Input),
-            Ok(_) => {
-                fill(input, &mut bytes[1..])?;
+            Ok(n) => {
+                fill(input, &mut bytes[n..])?;
                 Ok(Head { bytes })
             }
             Err(_) => Err(End::CutShort),

@@ -112,7 +112,9 @@ pub fn body(s: &[u8], machine: u16, edition: u16) -> Result<Body, Refusal>
     ensures { result ≡ body_told layout1 s.now machine edition }
 {
     measure(s)?;
-    let row = rows::find(s, machine, edition).ok_or(Refusal::NotLatest)?;
+    let Some(row) = rows::find(s, machine, edition) else {
+        return Err(Refusal::NotLatest);
+    };
     Ok(Body {
         size: row.size as usize,
         start: row.start as usize,

@@ -34,6 +34,7 @@ use Rattle.lengths.proofs.base.Reads as lengths_base
 use Rattle.lengths.proofs.extended.Reads as lengths_extended
 use Rattle.lengths.proofs.count.Reads as lengths_count
 use Rattle.header.proofs.check.Reads as header_check
+use Rattle.header.proofs.refusal.Reads as header_refusal
 use Rattle.header.proofs.wrong_extended.Reads as header_wrong_extended
 use Rattle.runs.proofs.size_of.Reads as runs_size_of
 use Rattle.sections.proofs.base.Reads as sections_base
@@ -50,6 +51,7 @@ use Rattle.spaces.proofs.wrong_mappings.Reads as spaces_wrong_mappings
 use Rattle.spaces.proofs.wrong_modifiers.Reads as spaces_wrong_modifiers
 use Rattle.parents.proofs.wrong.Reads as parents_wrong
 use Rattle.judge.proofs.judge.Reads as judge_judge
+use Rattle.judge.proofs.refusal.Reads as judge_refusal
 use Rattle.judge.proofs.examine.Reads as judge_examine
 use Rattle.regions.proofs.row.Reads as regions_row
 use Rattle.regions.specs.contracts.place_of as regions_place_of
@@ -240,6 +242,9 @@ lengths_count_determined κ a x y s t p q = p ∙ sym q
 pub header_check_determined : Answers header_check.Post
 header_check_determined κ a x y s t p q = p ∙ sym q
 
+pub header_refusal_determined : Answers header_refusal.Post
+header_refusal_determined κ a x y s t p q = p ∙ sym q
+
 pub header_wrong_extended_determined : Answers header_wrong_extended.Post
 header_wrong_extended_determined κ a x y s t p q = p ∙ sym q
 
@@ -305,6 +310,9 @@ parents_wrong_determined κ a x y s t p q = p ∙ sym q
 
 pub judge_judge_determined : Answers judge_judge.Post
 judge_judge_determined κ a x y s t p q = p ∙ sym q
+
+pub judge_refusal_determined : Answers judge_refusal.Post
+judge_refusal_determined κ a x y s t p q = p ∙ sym q
 
 pub judge_examine_determined : Answers judge_examine.Post
 judge_examine_determined κ a x y s t p q = p ∙ sym q
@@ -451,7 +459,7 @@ pub rows_latest_determined : Answers rows_latest.Post
 rows_latest_determined κ a x y s t p q = p ∙ sym q
 
 pub rows_find_determined : Answers rows_find.Post
-rows_find_determined κ a x y s t p q = p ∙ sym q
+rows_find_determined κ a x y s t p q = p.0 ∙ sym q.0
 
 pub rows_run_determined : Answers rows_run.Post
 rows_run_determined κ a x y s t p q = p ∙ sym q

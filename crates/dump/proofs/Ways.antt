@@ -37,11 +37,8 @@ module _ (d : List ℕ) {x : Result Held Refusal} (find : x ≡ pointed d) where
           let g = judged_refused (part s e d) judge w in
           held_refused d (λ z. g.0 (sym t.rules ∙ z)) (rw t.rules g.1)
 
-      pub passed_wrong : {r : Refusal} {o : Result Held Refusal} → y ≡ Err r → IsErrAnd o (λ e. e ≡ r) → o ≡ held d
-      passed_wrong {r} {o} w h = let p = err_from_is_err_and o h in rw (p.1, p.2) (read_wrong w)
-
       pub read_table : {u : Unit {0}} → y ≡ Ok u → Ok (Table p b a s e) ≡ held d
       read_table w =
           held_accepted d ((pointed_table d p b a s e (sym find ∙ q)).rules ∙ judged_accepted (part s e d) judge w) (sym q ∙ find)
 
-pub ruleset read_laws = (passed_refused, read_default, read_place, passed_wrong, read_table)
+pub ruleset read_laws = (passed_refused, read_default, read_place, read_table)

@@ -17,7 +17,9 @@ pub fn read(d: &[u8]) -> Result<Held, Refusal>
     match found {
         Held::Default { .. } => Ok(found),
         Held::Table { start, end, .. } => {
-            judge::judge(&d[start..end])?;
+            if let Err(refusal) = judge::judge(&d[start..end]) {
+                return Err(refusal);
+            }
             Ok(found)
         }
     }

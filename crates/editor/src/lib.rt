@@ -26,7 +26,9 @@ pub fn edit(t: &mut [u8], place: usize, stated: &[u8], wanted: &[u8]) -> Result<
     ensures t_after { t.new ≡ edit_left t.old (edit_of place stated.now wanted.now) }
 {
     let p = judge::examine(t)?;
-    test(t, p, place, stated, wanted)?;
+    if let Err(refused) = test(t, p, place, stated, wanted) {
+        return Err(EditRefusal::Refused(refused));
+    }
     exchange(t, p, place, stated, wanted)
 }
 

@@ -61,6 +61,7 @@ fn spot(d: &[u8]) -> Option<Spotted>
 }
 
 // The EBDA and, only if none is listed, base memory.
+#[tactic(auto, using(crate::proofs::Spots::first_ebda, crate::proofs::Spots::first_base))]
 fn searched_first(d: &[u8]) -> Option<Region>
     requires { sound_dump d.now ≡ true }
     ensures { or_blank result ≡ searched_first (regions_of d.now) }

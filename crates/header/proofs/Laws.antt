@@ -1,25 +1,41 @@
 -- Laws of the header's rows, one for each way out of the code. Assumes nothing.
-use Rattle.std.proofs.Common.{◌≡◌, ℕ, ◌+◌, ◌-◌, ◌%◌, ◌<◌, ◌≤◌, true, false, not, ◌||◌, eqb, ltb, List, [], ◌∷◌, length, get_or, take, drop, sym, ap, ◌∙◌, arith, length-take-le, ltb-false, le-ltb, lt-ltb, eq-eqb, ne_eqb}
+use Rattle.std.proofs.Common.{◌≡◌, ℕ, ◌+◌, ◌-◌, ◌%◌, ◌<◌, ◌≤◌, true, false, not, ◌||◌, eqb, ltb, List, [], ◌∷◌, length, get_or, take, drop, sym, ap, ◌∙◌, arith, ltb-false, le-ltb, lt-ltb, eq-eqb, ne_eqb}
+use mathlib.Core.Path.{refl}
 use mathlib.Core.Bool.{or-true}
-use Rattle.mps.specs.Words.{same}
+use Rattle.std.specs.Prelude.{Bool, Ok, Err}
+use Rattle.std.specs.List.{starts_with}
+use Rattle.mps.specs.Words.{same, any, among, each}
 use Rattle.mps.specs.Sums.{total, sum256}
 use Rattle.mps.specs.Layout.{header_size, part_most, base_length, spec_revision, known_revision, extended_length, extended_checksum, extended_end, extended_part}
 use Rattle.mps.specs.Refusals.{refusal, base_number}
+use Rattle.mps.specs.Reasons.{number_of_refusal}
+use Rattle.mps.specs.Answers.{answered}
+use Rattle.mps.specs.declared.refusals.Refusal.{Refusal}
 use Rattle.mps.specs.Table.{header_cut, wrong_signature, wrong_base_length, wrong_base_sum, wrong_revision, wrong_extended_part}
 use Rattle.mps.specs.Judge.{table_rules}
-use Rattle.laws.proofs.Tests.{or_parts}
+use Rattle.laws.proofs.Answers.{given_ok, given_err, Known, known_rows, number_numbered}
+use Rattle.laws.proofs.Tests.{eqb_comm, or_parts}
 use Rattle.laws.proofs.Refusals.{refusal_stop, refusal_go, refusal_pass, refusal_end}
+use Rattle.slices.proofs.Laws.{same_compared}
 use Rattle.header.specs.Header.{base_rules, header_rules, header_refusal}
 
 -- "PCMP", as the code has it.
 abbrev pcmp : List ℕ
 pcmp = 0x50 ∷ 0x43 ∷ 0x4d ∷ 0x50 ∷ []
 
+same_back : (a b : List ℕ) → same a b ≡ same b a
+unfolding same
+same_back [] [] = refl
+same_back [] (y ∷ ys) = refl
+same_back (x ∷ xs) [] = refl
+same_back (x ∷ xs) (y ∷ ys) = rw (eqb_comm x y, same_back xs ys)
+
 module _ (t : List ℕ) where
   -- ---- 5 and 6
 
-  pub signature_size : header_size ≤ length t → 4 ≡ length (take 4 t)
-  signature_size h = sym (length-take-le 4 t (omega arith))
+  -- What the library's `starts_with` tells of the signature.
+  pub signature_is : {b : Bool} → b ≡ starts_with eqb t pcmp → b ≡ same (take 4 t) pcmp
+  signature_is {b} e = same_compared pcmp (take 4 t) b e ∙ same_back pcmp (take 4 t)
 
   pub is_cut : length t < header_size → 5 ≡ header_refusal t
   unfolding header_refusal header_rules base_rules table_rules header_cut
@@ -74,6 +90,20 @@ module _ (t : List ℕ) where
       unfolding header_rules base_rules table_rules wrong_revision known_revision
       is_good z r =
           sym (refusal_go _ _ base_fits ∙ refusal_go _ _ (sum_good z) ∙ refusal_go _ _ (ap not (eq-eqb _ _ r)) ∙ refusal_end)
+
+-- ---- The number alone
+
+module _ (t : List ℕ) where
+  -- It is one that a refusal has, or 0.
+  header_known : Known (header_refusal t)
+  unfolding header_refusal header_rules table_rules any among each
+  header_known = known_rows (header_rules t) refl
+
+  pub number_passed : {u : Unit {0}} → Ok u ≡ answered (header_refusal t) tt → 0 ≡ header_refusal t
+  number_passed e = sym (given_ok (header_refusal t) tt e).0
+
+  pub number_refused : {r : Refusal} → Err r ≡ answered {A = Unit {0}} (header_refusal t) tt → number_of_refusal r ≡ header_refusal t
+  number_refused e = let g = given_err (header_refusal t) tt e in rw g.1 (number_numbered (header_refusal t) g.0 header_known)
 
 -- ---- 13: length and sum of the extended part
 

@@ -1,8 +1,8 @@
 // What the header of a bare table says of its two parts: refusals 5 to 9, and of 13 the extended part's length and sum.
 //
-// Promised of any bytes: `check` answers the refusal of the first of the rows 5 to 9 that is so, and `wrong_extended`
-// whether the extended part is too long, past the buffer or wrongly summed (`wrong_extended_part`). The definitions stand in
-// mps's specs/Table.antt; specs/Header.antt takes the rows 5 to 9 out of those of the table.
+// Promised of any bytes: `check` answers the refusal of the first of the rows 5 to 9 that is so, `refusal` its number, and
+// `wrong_extended` whether the extended part is too long, past the buffer or wrongly summed (`wrong_extended_part`). The
+// definitions stand in mps's specs/Table.antt; specs/Header.antt takes the rows 5 to 9 out of those of the table.
 #![tactic(auto)]
 
 ghost use Rattle.std.specs.Prelude.{◌≡◌, ◌≤◌, length};
@@ -21,10 +21,21 @@ pub fn check(t: &[u8]) -> Result<(), Refusal>
         return Err(Refusal::HeaderCut);
     }
     let base = lengths::base(t) as usize;
-    if slices::same(&t[..4], b"PCMP") {
+    if t.starts_with(b"PCMP") {
         return behind_signature(t, base);
     }
     Err(Refusal::Signature)
+}
+
+// The number alone, 0 where no row is so.
+#[tactic(auto, using(crate::proofs::Laws::number_passed, crate::proofs::Laws::number_refused))]
+pub fn refusal(t: &[u8]) -> u8
+    ensures { result ≡ header_refusal t.now }
+{
+    match check(t) {
+        Ok(()) => 0,
+        Err(refusal) => refusal.number(),
+    }
 }
 
 // 7 to 9.

@@ -5,11 +5,11 @@ use mathlib.Core.Bool.{Bool, true, false, cond}
 use mathlib.Core.List.{List, [], ◌∷◌, ◌++◌, append_assoc}
 use native.Mathlib.Omega.{arith}
 use lib.ListN.{length}
-use Rattle.mps.specs.Words.{among, keep, each, first, part}
+use Rattle.mps.specs.Words.{among, any, keep, each, first, part}
 use Rattle.mps.specs.Refusals.{Rule, ◌when◌, refusal, room_number}
 use Rattle.mps.specs.Rooms.{room_rules}
 use Rattle.std.specs.Prelude.{Result, Ok, Err}
-use Rattle.mps.specs.Reasons.{refusal_numbered}
+use Rattle.mps.specs.Reasons.{number_of_refusal, refusal_numbered}
 use Rattle.mps.specs.Layout.{header_size, processor_size, entry_size, processor_type, bus_type, io_apic_type, id_of, base_entries, extended_entries}
 use Rattle.mps.specs.Table.{wrong_extended_part, walk_from, wrong_extended, extended_from}
 use Rattle.mps.specs.Rules.{is_listed, ids_of, enabled_of, enabled_ids}
@@ -18,7 +18,7 @@ use Rattle.mps.specs.Judge.{table_rules, table_refusal, judged, examined}
 use Rattle.mps.specs.Slots.{is_pci, pci_buses, on_pci}
 use Rattle.mps.specs.declared.Sections.{Sections}
 use Rattle.mps.specs.declared.refusals.Refusal.{Refusal}
-use Rattle.laws.proofs.Answers.{answered_ok, given_ok, given_err, refused_on}
+use Rattle.laws.proofs.Answers.{answered_ok, given_ok, given_err, refused_on, Known, known_rows, number_numbered}
 use Rattle.laws.proofs.Tests.{or_parts}
 use Rattle.laws.proofs.Refusals.{number, first_none, refusal_append}
 use Rattle.laws.proofs.Lists.{length_each}
@@ -69,6 +69,20 @@ module _ (t : List ℕ) {x : Result (Unit {0}) Refusal} (e : x ≡ judged t) whe
   pub judged_refused : {r : Refusal} → x ≡ Err r → (table_refusal t ≡ 0 → ⊥) × (r ≡ refusal_numbered (table_refusal t))
   unfolding judged
   judged_refused q = given_err (table_refusal t) tt (sym q ∙ e)
+
+-- ---- The number alone
+
+module _ (t : List ℕ) where
+  -- It is one that a refusal has, or 0.
+  pub table_known : Known (table_refusal t)
+  unfolding table_refusal table_rules any among each
+  table_known = known_rows (table_rules t) refl
+
+  pub number_accepted : {u : Unit {0}} → Ok u ≡ judged t → 0 ≡ table_refusal t
+  number_accepted e = sym (judged_accepted t e refl)
+
+  pub number_refused : {r : Refusal} → Err r ≡ judged t → number_of_refusal r ≡ table_refusal t
+  number_refused e = let g = judged_refused t e refl in rw g.1 (number_numbered (table_refusal t) g.0 table_known)
 
 -- ---- What an accepted table is like
 

@@ -1,7 +1,7 @@
 // The judge: whether a bare table is accepted, and the number that it is refused with, 5 to 18.
 //
-// Promised of any bytes: `judge` answers `judged`, and `examine` answers `examined`: the same and, of an accepted table, where
-// the entries of each type stand. The definitions stand in mps's specs/Judge.antt, the
+// Promised of any bytes: `judge` answers `judged`, `refusal` the number alone, and `examine` answers `examined`: the same
+// and, of an accepted table, where the entries of each type stand. The definitions stand in mps's specs/Judge.antt, the
 // rows in specs/Table.antt and specs/Rules.antt there. What a caller may use of the places is `Placed`, specs/Placed.antt,
 // and that those of an accepted table are so is a law of proofs/Laws.antt.
 //
@@ -14,7 +14,7 @@ ghost use Rattle.std.specs.Prelude.{◌≡◌};
 ghost use Rattle.mps.specs.Layout.{processor_type, bus_type};
 ghost use Rattle.mps.specs.Refusals.{refusal as refusal_of};
 ghost use Rattle.mps.specs.Answers.{answered};
-ghost use Rattle.mps.specs.Judge.{judged, examined};
+ghost use Rattle.mps.specs.Judge.{table_refusal, judged, examined};
 ghost use Rattle.judge.specs.Placed.{Placed};
 ghost use Rattle.judge.specs.Stages.{from14, from15, from16, from17, from18, Walked, Ready};
 ghost use Rattle.judge.specs.Rolled.{nobody, listed, Rolled, Named};
@@ -26,6 +26,17 @@ pub fn judge(t: &[u8]) -> Result<(), Refusal>
 {
     let _places = examine(t)?;
     Ok(())
+}
+
+// The number alone, 0 where the table is accepted.
+#[tactic(auto, using(crate::proofs::Laws::number_accepted, crate::proofs::Laws::number_refused))]
+pub fn refusal(t: &[u8]) -> u8
+    ensures { result ≡ table_refusal t.now }
+{
+    match judge(t) {
+        Ok(()) => 0,
+        Err(refusal) => refusal.number(),
+    }
 }
 
 pub fn examine(t: &[u8]) -> Result<Sections, Refusal>

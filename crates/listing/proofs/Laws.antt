@@ -4,9 +4,9 @@ use mathlib.Core.Path.{◌≡◌, refl, ap, sym, ◌∙◌}
 use mathlib.Core.Bool.{true, false}
 use mathlib.Core.List.{List, [], ◌∷◌, ◌++◌, append_assoc}
 use native.Mathlib.Omega.{arith}
-use lib.ListN.{length, take, drop, replicate, length-append, length-replicate}
+use lib.ListN.{length, length-append}
 use lib.Dec.{leb}
-use lib.Seq.{sets, take_at}
+use lib.Seq.{sets}
 use borrow.Author.Tests.{ne_eqb}
 use Rattle.mps.specs.Words.{text, part, joined, among, each, any}
 use Rattle.mps.specs.Sums.{total}
@@ -27,9 +27,9 @@ use Rattle.mps.specs.declared.refusals.Refusal.TheVariants.{RoomTooSmall}
 use Rattle.laws.proofs.Answers.{answered_err, given_ok, given_err, Known, known_rows, number_numbered}
 use Rattle.laws.proofs.Tests.{whether}
 use Rattle.laws.proofs.Refusals.{number, refusal_none, refusal_below}
-use Rattle.laws.proofs.Lent.{lent_early, lent_none, lent_19, lent_before, left_kept, fit_late}
+use Rattle.laws.proofs.Lent.{lent_early, lent_none, lent_19, lent_before, left_kept, fit_put, fit_short, fit_late}
 use Rattle.dump.proofs.Laws.{Pointed}
-use Rattle.laws.proofs.Stores.{sets_at_start}
+use Rattle.laws.proofs.Stores.{sets_past}
 use Rattle.text.proofs.Laws.{length_decimal, length_hex, length_line}
 use Rattle.lines.specs.Wrote.{Wrote}
 use Rattle.lines.proofs.Laws.{then}
@@ -41,18 +41,21 @@ use Rattle.listing.specs.Texts.{table_text, frame_length, entries_text}
 pub told : (d : List ℕ) {x : Result Held Refusal} {h k : Held} → x ≡ held d → x ≡ Ok h → h ≡ k → held d ≡ Ok k
 told d e i q = sym e ∙ i ∙ ap Ok q
 
--- ---- A line that is made alone
+-- ---- A room and an answer
 
--- In as many zeros as no line fills, it stands at the first byte.
-module _ (w : List ℕ) {n : ℕ} {v : List ℕ} (e : n ≡ length w) (m : v ≡ sets (replicate 64 0) 0 w) (h : length w ≤ 64) where
-  at_start : v ≡ w ++ drop (length w) (replicate 64 0)
-  at_start = m ∙ sets_at_start (replicate 64 0) w (rw (length-replicate {A = ℕ} 64 0) h)
+-- In no room nothing is stored.
+nothing : (v w : List ℕ) → v ≡ sets [] 0 w → v ≡ []
+nothing v w e = e ∙ sets_past [] 0 w (omega arith)
 
-  pub alone_inside : n ≤ length v
-  alone_inside = rw (e, at_start) (omega (arith, length-append w (drop (length w) (replicate 64 0))))
+-- Whether it fits is learnt by making the answer in no room.
+module _ (w room v : List ℕ) {n : ℕ} (m : v ≡ sets [] 0 w) (e : n ≡ length w) where
+  pub too_long : length (v ++ room) < n → (Err RoomTooSmall ≡ fitted_bytes w room) × (v ++ room ≡ fit_left w room)
+  too_long h = let z = rw (nothing v w m) at h in rw (nothing v w m) (fit_short w (length w) room (omega arith))
 
-  pub alone_is : take n v ≡ w
-  alone_is = rw (e, at_start) (take_at w _ (length w) refl)
+  pub it_fits : (u : List ℕ) → n ≤ length (v ++ room) → u ≡ sets (v ++ room) 0 w → (Ok n ≡ fitted_bytes w room) × (u ≡ fit_left w room)
+  it_fits u h k =
+      let z = rw (nothing v w m) at h in
+      fit_put w (length w) room e (omega arith) (rw (nothing v w m) at k)
 
 -- ---- The listing of a table from its parts
 

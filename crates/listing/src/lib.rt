@@ -5,8 +5,8 @@
 // those of `full` in specs/Defaults.antt. A refusal leaves the room as it was.
 //
 // Nothing is written before it is known that all of it fits. Where the room holds the longest listing that such a table can
-// have, that is known at once; else the listing is measured first, by arithmetic. A line that stands alone is made outside
-// the room.
+// have, that is known at once; else the listing is measured first, by arithmetic. A line that stands alone is made twice
+// by the same function: first in no room at all, which only measures it, then in the room.
 #![tactic(auto)]
 
 ghost use Rattle.std.specs.Prelude.{◌≡◌, ℕ, ◌≤◌, ◌<◌, length};
@@ -23,9 +23,6 @@ ghost use Rattle.mps.specs.Rooms.{fitted_bytes, fit_left};
 ghost use Rattle.listing.specs.Texts.{table_text, frame_length, entries_text};
 
 use mps::{Held, Refusal, layout};
-
-// No line that stands alone is longer.
-const LINE_MOST: usize = 64;
 
 // What a listing says in front of its table: where the pointer stands, its IMCR bit, and the table's address.
 #[derive(Clone, Copy)]
@@ -156,25 +153,16 @@ fn list_table(t: &[u8], head: Head, out: &mut [u8]) -> Result<usize, Refusal>
     Ok(put_table(out, t, head))
 }
 
-// A line that stands alone.
-fn list_line(line: &[u8], out: &mut [u8]) -> Result<usize, Refusal>
-    ensures value { result ≡ fitted_bytes line.now out.old }
-    ensures out_after { out.new ≡ fit_left line.now out.old }
-{
-    if out.len() < line.len() {
-        return Err(Refusal::RoomTooSmall);
-    }
-    out[..line.len()].copy_from_slice(line);
-    Ok(line.len())
-}
-
 fn list_default(number: u8, imcr: u8, out: &mut [u8]) -> Result<usize, Refusal>
     ensures value { result ≡ fitted_bytes (default_line number imcr) out.old }
     ensures out_after { out.new ≡ fit_left (default_line number imcr) out.old }
 {
-    let mut line = [0; LINE_MOST];
-    let size = lines::frame::default(&mut line, 0, number, imcr);
-    list_line(&line[..size], out)
+    let size = lines::frame::default(&mut out[..0], 0, number, imcr);
+    if out.len() < size {
+        return Err(Refusal::RoomTooSmall);
+    }
+    lines::frame::default(out, 0, number, imcr);
+    Ok(size)
 }
 
 // A default's table stands nowhere: it is made here, and its address is 0.
@@ -196,9 +184,12 @@ fn print_refused(number: u8, out: &mut [u8]) -> Result<usize, Refusal>
     ensures value { result ≡ fitted_bytes (refused_line number) out.old }
     ensures out_after { out.new ≡ fit_left (refused_line number) out.old }
 {
-    let mut line = [0; LINE_MOST];
-    let size = lines::frame::refused(&mut line, 0, number);
-    list_line(&line[..size], out)
+    let width = lines::frame::refused(&mut out[..0], 0, number);
+    if out.len() < width {
+        return Err(Refusal::RoomTooSmall);
+    }
+    lines::frame::refused(out, 0, number);
+    Ok(width)
 }
 
 // How many bytes of the listing stand in the room, or why it is refused.

@@ -1,12 +1,12 @@
 -- Laws of little-endian numbers, for any width. Assumes nothing.
-use Prim.Native.Nat.{ℕ, zero, suc, ◌+◌, ◌*◌, ◌/◌, ◌%◌, ◌^◌, ◌<◌, ◌≤◌}
+use Prim.Native.Nat.{ℕ, zero, suc, ◌+◌, ◌-◌, ◌*◌, ◌/◌, ◌%◌, ◌^◌, ◌<◌, ◌≤◌}
 use mathlib.Core.Path.{◌≡◌, refl, ap, sym, ◌∙◌}
 use mathlib.Core.List.{List, [], ◌∷◌, ◌++◌, append_assoc, append-nil}
 use native.Mathlib.Omega.{arith}
 use native.Mathlib.Numerals.{add-one}
-use native.Mathlib.Nat.{zero-add, add-zero, suc-add, add_assoc, mul_assoc, one-le-pow, pow-suc, pow-succ', div-div-eq-div-mul, div-one}
+use native.Mathlib.Nat.{zero-add, add-zero, suc-add, add_assoc, mul_assoc, lt_of_lt_of_le, one-le-pow, pow-le-pow_right, pow-suc, pow-succ', div-div-eq-div-mul, div-one}
 use lib.Arith.{mod-mul}
-use lib.ListN.{length, get_or, take, drop, set, replicate}
+use lib.ListN.{length, get_or, take, drop, set, get_or-eq_default}
 use Rattle.std.specs.Int.{w16, w32, w64, from_le_bytes, to_le_bytes, byte_at, bytes_low_first}
 use lib.Seq.{drop-append_seam, drop-cons, get_or-drop, get_or-take, length-take-le, take_all, sets, sets-eq}
 use Rattle.mps.specs.Numbers.{le, bytes}
@@ -33,18 +33,13 @@ le_four s at = omega (arith, le_split 2 2 s at)
 pub le_eight : (s : List ℕ) (at : ℕ) → le 8 s at ≡ le 4 s at + le 4 s (at + 4) * 4294967296
 le_eight s at = omega (arith, le_split 4 4 s at)
 
--- In bytes that stand in two lists.
-pub le_alike :
-    (k : ℕ) (b : List ℕ) (i : ℕ) (s : List ℕ) (at : ℕ) → ((j : ℕ) → j < k → get_or b (i + j) 0 ≡ get_or s (at + j) 0) → le k b i ≡ le k s at
+-- One byte below the k - i bytes that stand from at + i on.
+pub le_next : (k i : ℕ) (s : List ℕ) (at : ℕ) → 0 < i → i ≤ k → le (k - (i - 1)) s (at + (i - 1)) ≡ get_or s (at + (i - 1)) 0 + 256 * le (k - i) s (at + i)
 unfolding le
-le_alike zero b i s at h = refl
-le_alike (suc k) b i s at h =
-    let e : get_or b i 0 ≡ get_or s at 0 = rw (add-zero i, add-zero at) at (h 0 (omega arith)) in
-    rw (
-      e,
-      le_alike k b (i + 1) s (at + 1)
-          (λ j p. let f : i + suc j ≡ i + 1 + j = omega arith in let g : at + suc j ≡ at + 1 + j = omega arith in rw (f, g) at (h (suc j) (omega arith))),
-    )
+le_next k i s at h g =
+    let e : k - (i - 1) ≡ suc (k - i) = omega arith in
+    let f : at + (i - 1) + 1 ≡ at + i = omega arith in
+    rw (e, f)
 
 pub le_drop : (k a : ℕ) (s : List ℕ) (at : ℕ) → le k (drop a s) at ≡ le k s (a + at)
 unfolding le
@@ -61,24 +56,6 @@ le_take (suc k) n s at h = rw (get_or-take n s at 0 (omega arith), le_take k n s
 -- The first of the bytes from a place on.
 pub le_whole : (k : ℕ) (b s : List ℕ) (at : ℕ) → b ≡ take k (drop at s) → le k b 0 ≡ le k s at
 le_whole k b s at e = rw e (le_take k k (drop at s) 0 (omega arith) ∙ rw add-zero at (le_drop k at s 0))
-
-get_or-append_zeros : (b z : List ℕ) → ((j : ℕ) → get_or z j 0 ≡ 0) → (j : ℕ) → get_or (b ++ z) j 0 ≡ get_or b j 0
-get_or-append_zeros [] z h j = h j
-get_or-append_zeros (x ∷ b) z h zero = refl
-get_or-append_zeros (x ∷ b) z h (suc j) = get_or-append_zeros b z h j
-
-get_or-zeros : (n j : ℕ) → get_or (replicate {A = ℕ} n 0) j 0 ≡ 0
-get_or-zeros zero j = refl
-get_or-zeros (suc n) zero = refl
-get_or-zeros (suc n) (suc j) = get_or-zeros n j
-
--- They, and 0 for those past the end.
-pub le_padded : (k m n : ℕ) (s : List ℕ) (at : ℕ) → le k (drop at s ++ drop m (replicate n 0)) 0 ≡ le k s at
-le_padded k m n s at =
-    le_alike k (drop at s ++ drop m (replicate n 0)) 0 s at
-    (λ j h. let e : 0 + j ≡ j = omega arith in
-    rw e
-    (get_or-append_zeros (drop at s) (drop m (replicate n 0)) (λ i. get_or-drop m (replicate n 0) i 0 ∙ get_or-zeros n (m + i)) j ∙ get_or-drop at s j 0))
 
 module _ (b s : List ℕ) (at r : ℕ) where
   pub from_two : r ≡ from_le_bytes w16 b → le 2 b 0 ≡ le 2 s at → r ≡ le 2 s at
@@ -109,10 +86,30 @@ le_row k n s a at h = le_take k n (drop a s) at h ∙ le_drop k a s at
 pub le_append : (k : ℕ) (a b : List ℕ) (at : ℕ) → le k (a ++ b) (length a + at) ≡ le k b at
 le_append k a b at = rw (← le_drop k (length a) (a ++ b) at, drop-append_seam)
 
+pub le_past : (k : ℕ) (s : List ℕ) (at : ℕ) → length s ≤ at → le k s at ≡ 0
+unfolding le
+le_past zero s at h = refl
+le_past (suc k) s at h = rw (get_or-eq_default s 0 h, le_past k s (at + 1) (omega arith))
+
+-- The bytes that are there are all of a number that reaches past the end.
+pub le_rest_lem : (n k : ℕ) (s : List ℕ) (at : ℕ) → n ≡ length s - at → n ≤ k → le n s at ≡ le k s at
+le_rest_lem n k s at e h =
+    let w : n + (k - n) ≡ k = omega arith in
+    let p = le_past (k - n) s (at + n) (omega arith) in
+    sym (rw (w, p) at (le_split n (k - n) s at) ∙ omega arith)
+
+-- A number of n bytes fits where k bytes do.
+pub fits_within : (n k r : ℕ) → n ≤ k → r < 256 ^ n → r < 256 ^ k
+fits_within n k r h b = lt_of_lt_of_le b (pow-le-pow_right (omega arith) h)
+
 pub le_below : (k : ℕ) (s : List ℕ) (at : ℕ) → ((i : ℕ) → get_or s i 0 < 256) → le k s at < 256 ^ k
 unfolding le
 le_below zero s at b = omega arith
 le_below (suc k) s at b = rw pow-succ' (omega (arith, b at, le_below k s (at + 1) b))
+
+-- In a type of n bytes there is room for k.
+pub le_within : (k n : ℕ) (s : List ℕ) (at : ℕ) → k ≤ n → ((i : ℕ) → get_or s i 0 < 256) → le k s at < 256 ^ n
+le_within k n s at h b = lt_of_lt_of_le (le_below k s at b) (pow-le-pow_right (omega arith) h)
 
 -- ---- bytes
 

@@ -3,7 +3,7 @@
 // end reads as 0, and a store past the end does nothing. proofs/Laws.antt has the laws over any width.
 #![tactic(auto)]
 
-ghost use Rattle.std.specs.Prelude.{◌≡◌, ◌+◌, ◌-◌, ◌^◌, ◌≤◌, ◌<◌, length, get_or, drop};
+ghost use Rattle.std.specs.Prelude.{◌≡◌, ◌+◌, ◌-◌, ◌^◌, ◌≤◌, ◌<◌, length, get_or};
 ghost use Rattle.std.proofs.lemmas.List.Edits.{sets};
 ghost use Rattle.mps.specs.Numbers.{le, bytes};
 
@@ -27,43 +27,38 @@ fn left(s: &[u8], at: usize) -> usize
     s.len().saturating_sub(at)
 }
 
-// What stands from a place on.
-fn from(s: &[u8], at: usize) -> &[u8]
-    ensures { result.now ≡ drop at s.now }
-{
-    s.get(at..).unwrap_or(&[])
-}
-
-// What stands from a place on, where that is less than N bytes, and 0 past the end: the way for the few numbers that reach so
-// far. Not inlined, so that no other number has a buffer.
-#[inline(never)]
-fn padded<const N: usize>(s: &[u8], at: usize) -> [u8; N]
-    requires { length s.now - at ≤ N }
-    ensures { le N result 0 ≡ le N s.now at }
-{
-    let rest = from(s, at);
-    let mut all = [0; N];
-    all[..rest.len()].copy_from_slice(rest);
-    all
-}
-
-// The N bytes from a place on. Where all are there, no test stands between them, so that they are read by one load.
+// The N bytes from a place on, which are all there. No test stands between them, so that they are read by one load.
 fn piece<const N: usize>(s: &[u8], at: usize) -> [u8; N]
-    requires { 0 < N }
+    requires { at + N ≤ length s.now }
     ensures { le N result 0 ≡ le N s.now at }
 {
-    if N <= left(s, at) {
-        if let Some(all) = s[at..at + N].first_chunk() {
-            return *all;
-        }
+    match s[at..at + N].first_chunk() {
+        Some(all) => *all,
+        None => [0; N],
     }
-    padded(s, at)
+}
+
+// The n bytes that stand from a place on: the way for the few numbers that reach past the end. From the highest byte down, so
+// that no power of 256 is held, and with no buffer, so that a number that nobody asks for costs nothing.
+fn le_rest(s: &[u8], at: usize, n: usize) -> u64
+    requires { (n ≤ 8) × (n ≤ length s.now - at) }
+    ensures { (result ≡ le n s.now at) × (result < 256 ^ n) }
+{
+    let mut r = 0;
+    for i in (0..n).rev() {
+        r = r * 256 + wide(s[at + i]);
+    }
+    r
 }
 
 #[tactic(auto, using(crate::proofs::Laws::from_two))]
 pub fn le16(s: &[u8], at: usize) -> u16
     ensures { result ≡ le 2 s.now at }
 {
+    let n = left(s, at);
+    if n < 2 {
+        return le_rest(s, at, n) as u16;
+    }
     u16::from_le_bytes(piece(s, at))
 }
 
@@ -71,6 +66,10 @@ pub fn le16(s: &[u8], at: usize) -> u16
 pub fn le32(s: &[u8], at: usize) -> u32
     ensures { result ≡ le 4 s.now at }
 {
+    let n = left(s, at);
+    if n < 4 {
+        return le_rest(s, at, n) as u32;
+    }
     u32::from_le_bytes(piece(s, at))
 }
 
@@ -78,6 +77,10 @@ pub fn le32(s: &[u8], at: usize) -> u32
 pub fn le64(s: &[u8], at: usize) -> u64
     ensures { result ≡ le 8 s.now at }
 {
+    let n = left(s, at);
+    if n < 8 {
+        return le_rest(s, at, n);
+    }
     u64::from_le_bytes(piece(s, at))
 }
 

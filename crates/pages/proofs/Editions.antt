@@ -1,21 +1,24 @@
 -- The editions of a machine: the latest, one row more, how they rise, and where one stands. Assumes nothing.
-use Prim.Native.Nat.{ℕ, zero, suc, ◌+◌, ◌≤◌, ◌<◌}
+use Prim.Native.Nat.{ℕ, zero, suc, ◌+◌, ◌*◌, ◌≤◌, ◌<◌}
 use mathlib.Core.Path.{◌≡◌, refl, sym, ap, ◌∙◌}
 use mathlib.Core.Bool.{Bool, true, false, cond, not, ◌&&◌, false≢true, and-true, and_assoc}
 use mathlib.Core.List.{List, [], ◌∷◌, ◌++◌, append-nil, append_assoc}
 use native.Mathlib.Numerals.{add-one}
 use native.Mathlib.Omega.{arith}
+use native.Mathlib.Nat.{suc-mul}
 use lib.ListN.{length}
 use lib.Dec.{ltb, leb, eqb}
 use borrow.Author.Tests.{ltb-true, leb-true, eqb-true, lt-ltb, le-leb, eq-eqb, ne_eqb}
 use Rattle.mps.specs.Words.{among, last, keep, any, every, each, rising, part}
 use Rattle.mps.specs.Layout.{book_head, book_rows, book_row, body_start, body_size}
-use Rattle.mps.specs.Book.{Row, BookLayout, body_in, edition_of, of_machine, latest, editions_run, good_body}
+use Rattle.mps.specs.Book.{Row, BookLayout, layout1, body_in, edition_of, of_machine, latest, editions_run, good_body}
 use Rattle.mps.specs.Book.{bodies_at, book_of, row_at, rows_at, rows_of, good_book}
 use Rattle.mps.specs.History.{is_edition, holds_edition, edition_body, edition_start}
 use Rattle.laws.proofs.Tests.{eqb_comm, whether, same_test, and_parts}
 use Rattle.laws.proofs.Lists.{among_none, among_cases, keep_in, keep_out}
 use Rattle.laws.proofs.Rising.{among_rising}
+use Rattle.laws.proofs.Small.{Bytes}
+use Rattle.numbers.proofs.Laws.{le_below}
 use Rattle.pages.specs.Pages.{Readable, found_from, found_in, fitting}
 use Rattle.pages.proofs.Bytes.{length_rows, row_body}
 use Rattle.pages.proofs.Placed.{Placed, placed_none, placed_row}
@@ -178,6 +181,21 @@ module _ (l : BookLayout) (m e : ℕ) (s : List ℕ) where
 
   pub found_some : (found_in l m e s ≡ 0 → ⊥) → holds_edition m e (rows_of l s) ≡ true
   found_some z = held ∙ ap not (ne_eqb (found_in l m e s) 0 z)
+
+-- It stands no further on than where the rows end,
+found_within : (m e w : ℕ) (s : List ℕ) (at n : ℕ) → found_from w m e s at n ≤ at + n * book_row w
+unfolding found_from
+found_within m e w s at zero = omega arith
+found_within m e w s at (suc n) =
+    let rows = suc-mul n (book_row w) in
+    whether (is_edition m e (row_at w s at))
+    (λ t. omega (arith, found_here m e w s at n t, rows))
+    (λ f. omega (arith, found_next m e w s at n f, found_within m e w s (at + book_row w) n, rows))
+
+-- so of layout 1 it is small, and a field's place added to it does not overflow.
+pub found_small : (m e : ℕ) (s : List ℕ) {at : ℕ} → at ≡ found_in layout1 m e s → Bytes s → at < 1048576
+unfolding found_in
+found_small m e s q b = omega (arith, q, found_within m e 2 s book_head (book_rows s), le_below 2 s 1 b)
 
 -- The row at a place tells of the body of an edition, which begins where the bodies of the rows before it end, and ends at
 -- `end` at most.

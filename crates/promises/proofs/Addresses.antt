@@ -196,21 +196,25 @@ parent_answers t bus kind address a k e =
     sym (seen_answered t (parent_of t bus) kind address a (parent_listed (base_entries t) (links xs) bus o.listed (parent_linked xs bus kind address e)) k)
 
 -- "first that applies", of an accepted table, a listed bus and a kind: no, yes, the parent's answer, no, else undeclared. Of the
--- parent's answer, as ask 5 amends it there, what the other buses with that parent leave.
+-- parent's answer, as ask 5 amends it there, what the other buses with that parent leave: where the bus asks it, the query on the
+-- parent answers so.
 pub seen_says : (t : List ℕ) (bus kind address : ℕ) → table_refusal t ≡ 0 → is_listed (base_entries t) bus ≡ true → kind ≤ space_kind_most
-    → seen t bus kind address
+    → (says (extended_entries t) bus kind address ≡ Say.parent → seen t (parent_of t bus) kind address ≡ Ok (seen_by t (parent_of t bus) kind address))
+    × (seen t bus kind address
     ≡ Ok (answer (says (extended_entries t) bus kind address) 0
-    (leaves (extended_entries t) (parent_of t bus) bus kind address (onward (seen_by t (parent_of t bus) kind address))))
+    (leaves (extended_entries t) (parent_of t bus) bus kind address (onward (seen_by t (parent_of t bus) kind address)))))
 unfolding climb seen_by
 seen_says t bus kind address a l k =
     let es = base_entries t in
     let xs = extended_entries t in
     let left = length (ids_of bus_type es) - 1 in
     let up = head bus (parents_of (links xs) bus) in
-    let o = (obeyed t a).parents in
-    sym (seen_answered t bus kind address a l k)
-    ∙ ap Ok (sym (seen_enough es xs o.listed o.rising bus l kind address 1)
-    ∙ rw (add-one left) (ap (λ x. answer (says xs bus kind address) 0 (leaves xs up bus kind address x)) (climb_onward left xs up kind address 0)))
+    let o = (obeyed t a).parents in (
+      parent_answers t bus kind address a k,
+      sym (seen_answered t bus kind address a l k)
+          ∙ ap Ok (sym (seen_enough es xs o.listed o.rising bus l kind address 1)
+          ∙ rw (add-one left) (ap (λ x. answer (says xs bus kind address) 0 (leaves xs up bus kind address x)) (climb_onward left xs up kind address 0))),
+    )
 
 -- ---- The numbers
 

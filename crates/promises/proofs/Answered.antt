@@ -1,17 +1,19 @@
 -- What a call answers has its number, where that is 0 or a refusal's: which it is, of each call, is in Numbered. Assumes nothing.
 use Prim.Native.Nat.{ℕ, zero, suc}
-use mathlib.Core.Path.{◌≡◌, refl, sym, ◌∙◌}
+use mathlib.Core.Path.{◌≡◌, refl, ap, sym, ◌∙◌}
 use mathlib.Core.Bool.{Bool, true, false, not, ◌||◌, true≢false}
 use mathlib.Core.List.{List, [], ◌∷◌}
 use native.Mathlib.Omega.{arith}
 use lib.Dec.{eqb}
 use borrow.Author.Tests.{eqb-true}
+use Rattle.std.specs.Prelude.{Result}
 use Rattle.mps.specs.Words.{among, any, each}
 use Rattle.mps.specs.Refusals.{inner_number}
 use Rattle.mps.specs.Reasons.{number_of_refusal, refusals}
-use Rattle.mps.specs.Answers.{number_of, edited_numbers, edited_of}
+use Rattle.mps.specs.Answers.{number_of, answered, numbers_of, edited_numbers, edited_of}
+use Rattle.mps.specs.declared.refusals.Refusal.{Refusal}
 use Rattle.laws.proofs.Tests.{whether, or_parts}
-use Rattle.laws.proofs.Answers.{Known, number_numbered}
+use Rattle.laws.proofs.Answers.{Known, number_numbered, answered_err, refusal_small, numbered_number}
 
 -- What is among some numbers is among those that have all of them; which they are is computed.
 within : (n : ℕ) (xs ys : List ℕ) → any (λ (m : ℕ). not (among m ys)) xs ≡ false → among n xs ≡ true → among n ys ≡ true
@@ -31,6 +33,13 @@ pub known : (n : ℕ) (numbers : List ℕ)
     → any (λ (m : ℕ). not (among m (0 ∷ each number_of_refusal refusals))) (0 ∷ numbers) ≡ false
     → among n (0 ∷ numbers) ≡ true → Known n
 known n numbers h a = within n (0 ∷ numbers) (0 ∷ each number_of_refusal refusals) h a
+
+-- What is refused with a refusal's number has it, whichever the refusal.
+pub answered_refusal : {A : Type 0} (values : A → List ℕ) (r : Refusal) (a : A)
+    → number_of (numbers_of values (answered (number_of_refusal r) a)) ≡ number_of_refusal r
+answered_refusal {A} values r a =
+    let none : number_of_refusal r ≡ 0 → ⊥ = λ z. absurd (omega (arith, (refusal_small r).0, z)) in
+    ap (λ (x : Result A Refusal). number_of (numbers_of values x)) (sym (answered_err (number_of_refusal r) a none (sym (numbered_number r))))
 
 -- 23 comes with the inner number, every other one by itself.
 pub edited_number : (numbers : List ℕ) (n inner : ℕ)

@@ -65,7 +65,8 @@ run_kept t (e ∷ es) = kept_then t (edit_left t e) (run (edit_left t e) es) (le
 accepted_skip : (e : Edit) (es : List Edit) (r : (Result (Unit {0}) EditRefusal)) (rs : List (Result (Unit {0}) EditRefusal)) → (r ≡ Ok tt → ⊥) → accepted (e ∷ es) (r ∷ rs) ≡ accepted es rs
 unfolding accepted
 accepted_skip e es (Ok u) rs n = absurd (n refl)
-accepted_skip e es (Err r) rs n = refl
+accepted_skip e es (Err (Refused r)) rs n = refl
+accepted_skip e es (Err (Inner r)) rs n = refl
 
 -- "Over any run of edits, the table is the first one with the accepted edits put in, in order": its entries are so,
 run_entries : (t : List ℕ) (es : List Edit) → base_entries (run t es) ≡ put_in (base_entries t) (accepted es (run_answers t es))

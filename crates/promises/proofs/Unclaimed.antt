@@ -27,7 +27,7 @@ use Rattle.laws.proofs.Claims.{is_yes, is_undeclared, claims_yes, silent_undecla
 use Rattle.addresses.proofs.Links.{links_leaves}
 use Rattle.addresses.proofs.Climbs.{parent_linked, answer_above}
 use Rattle.promises.specs.Climbed.{onward, parent_of, claim_of, silence_of, climb_before, seen_before, share_parent}
-use Rattle.promises.proofs.Addresses.{seen_says, parent_answers}
+use Rattle.promises.proofs.Addresses.{seen_says}
 
 -- ---- "The earlier steps and the link count stay."
 
@@ -185,10 +185,9 @@ module _ (t : List ℕ) (bus kind address : ℕ) (a : table_refusal t ≡ 0) (l 
       → seen t bus kind address ≡ Ok (unclaimed (claim_of t bus kind address) (silence_of t bus) (onward x))
   unfolding leaves
   through {x} e =
-      let same : seen_by t (parent_of t bus) kind address ≡ x =
-      (given_ok 0 x (sym (parent_answers t bus kind address a h p) ∙ e)).1
-      in
-      seen_says t bus kind address a l h ∙ rw (p, same)
+      let s = seen_says t bus kind address a l h in
+      let same : seen_by t (parent_of t bus) kind address ≡ x = (given_ok 0 x (sym (s.0 p) ∙ e)).1 in
+      s.1 ∙ rw (p, same)
 
   -- "when the parent answers yes, the answer is no if another bus with that parent declares or adds the address and doesn't take
   -- it away;
@@ -285,7 +284,7 @@ module _ (t : List ℕ) (bus kind address : ℕ) (a : table_refusal t ≡ 0) (l 
   pub claims_itself : (seen t bus kind address ≡ Ok (Yes 0)) ↔ (claims (extended_entries t) kind address bus ≡ true)
   unfolding sort
   claims_itself =
-      let alone = answer_alone (seen_says t bus kind address a l h) in
+      let alone = answer_alone (seen_says t bus kind address a l h).1 in
       let own = itself_yes (says (extended_entries t) bus kind address) _ (from_parent (Yes 0) refl) in
       let claimed = claims_yes kind address bus (extended_entries t) in
       (λ e. sym claimed ∙ own.0 (alone.0 e), λ e. alone.1 (own.1 (claimed ∙ e)))
@@ -293,7 +292,7 @@ module _ (t : List ℕ) (bus kind address : ℕ) (a : table_refusal t ≡ 0) (l 
   pub silent_itself : (seen t bus kind address ≡ Ok (Undeclared 0)) ↔ (silent (extended_entries t) bus ≡ true)
   unfolding sort
   silent_itself =
-      let alone = answer_alone (seen_says t bus kind address a l h) in
+      let alone = answer_alone (seen_says t bus kind address a l h).1 in
       let own = itself_undeclared (says (extended_entries t) bus kind address) _ (from_parent (Undeclared 0) refl) in
       let quiet = silent_undeclared kind address bus (extended_entries t) in
       (λ e. sym quiet ∙ own.0 (alone.0 e), λ e. alone.1 (own.1 (quiet ∙ e)))

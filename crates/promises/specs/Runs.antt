@@ -6,13 +6,15 @@ use Rattle.mps.specs.Layout.{Entry, extended_part}
 use Rattle.mps.specs.Writing.{Parts, fields_of}
 use Rattle.mps.specs.Edits.{Edit}
 use Rattle.mps.specs.declared.refusals.EditRefusal.{EditRefusal}
+use Rattle.mps.specs.declared.refusals.EditRefusal.TheVariants.{Refused, Inner}
 
 -- The accepted edits of a run, in order: those that were answered as done.
 unfoldable pub accepted : List Edit → List (Result (Unit {0}) EditRefusal) → List Edit
 accepted [] rs = []
 accepted (e ∷ es) [] = []
 accepted (e ∷ es) (Ok _ ∷ rs) = e ∷ accepted es rs
-accepted (e ∷ es) (Err refusal ∷ rs) = accepted es rs
+accepted (e ∷ es) (Err (Refused refusal) ∷ rs) = accepted es rs
+accepted (e ∷ es) (Err (Inner refusal) ∷ rs) = accepted es rs
 
 -- Entries with edits put in, in order.
 unfoldable pub put_in : List Entry → List Edit → List Entry

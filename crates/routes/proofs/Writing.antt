@@ -2,7 +2,7 @@
 use Prim.Native.Nat.{ℕ, ◌+◌, ◌≤◌, ◌<◌}
 use mathlib.Core.Path.{◌≡◌, refl, ap, sym, ◌∙◌}
 use mathlib.Core.Bool.{Bool, true, false}
-use mathlib.Core.List.{List, [], ◌++◌}
+use mathlib.Core.List.{List, [], ◌++◌, append-nil}
 use native.Mathlib.Omega.{arith}
 use native.Mathlib.Numerals.{add-one}
 use lib.ListN.{length, get_or, drop, drop_of_length-le, length-append}
@@ -14,7 +14,9 @@ use Rattle.mps.specs.Routes.{pair}
 use Rattle.laws.proofs.Lists.{keep_in, keep_out}
 use Rattle.laws.proofs.Rows.{rows_short, rows_cut}
 use Rattle.laws.proofs.Writes.{Writes, writes_next}
-use Rattle.routes.specs.Pairs.{named, pairs_for, pairs_in}
+use Rattle.roll.specs.Roll.{taken_bit, marked, OnRoll}
+use Rattle.routes.specs.Pairs.{pairs_for, pairs_in}
+use Rattle.routes.proofs.Counting.{named_all, named_one, named_none}
 
 -- ---- A pair for each ID
 
@@ -45,6 +47,26 @@ module _ (e : Entry) (ids : List ℕ) (i : ℕ) where
     unfolding pair
     ids_put inv f = writes_next inv one others ids_next refl f
 
+-- ---- The pairs of one entry: of all the IDs, or, by the answer of the roll that they are on, of one or none
+
+module _ (ids : List ℕ) (e : Entry) where
+  pub for_all : destination e ≡ 255 → pairs_for ids e ≡ joined (pair e) ids
+  unfolding pairs_for
+  for_all h = rw (named_all ids (destination e) h)
+
+  module _ (n : destination e ≡ 255 → ⊥) (h : destination e < 256) (roll : List ℕ) (on : OnRoll taken_bit roll ids) {r : Bool} (f : r ≡ marked 1 roll (destination e)) where
+    for_its : r ≡ true → pairs_for ids e ≡ pair e (destination e)
+    unfolding pairs_for joined
+    for_its g = rw (named_one ids (destination e) n h roll on f g) (append-nil (pair e (destination e)))
+
+    pub for_one : r ≡ true → (pairs_for ids e ≡ pair e (destination e)) × (length (pairs_for ids e) ≡ 2)
+    unfolding pair
+    for_one g = (for_its g, ap length (for_its g))
+
+    pub for_none : r ≡ false → pairs_for ids e ≡ []
+    unfolding pairs_for joined
+    for_none g = rw (named_none ids (destination e) n h roll on f g)
+
 -- ---- The pairs of the rows of a slice
 
 -- Nothing whole is left, or one row and those behind it.
@@ -65,18 +87,15 @@ module _ (ids : List ℕ) (p : Entry → Bool) (rest : List ℕ) where
     pub pairs_pass : r ≡ false → {t₀ w out : List ℕ} {from place : ℕ} → Writes t₀ from w out place (pairs_left rest) → Writes t₀ from w out place (pairs_left left)
     pairs_pass g inv = rw (← pairs_other g) inv
 
-    module _ (g : r ≡ true) (to : List ℕ) (n : to ≡ named ids (destination e)) where
-      abbrev here : List ℕ
-      here = joined (pair e) to
+    module _ (g : r ≡ true) where
+      pairs_passed : pairs_left rest ≡ pairs_for ids e ++ pairs_left left
+      unfolding pairs_in joined
+      pairs_passed = rw (c, rows_cut 8 e left (omega arith) l, keep_in p e (rows 8 left) (sym t ∙ g))
 
-      pairs_passed : pairs_left rest ≡ here ++ pairs_left left
-      unfolding pairs_in pairs_for joined
-      pairs_passed = rw (n, c, rows_cut 8 e left (omega arith) l, keep_in p e (rows 8 left) (sym t ∙ g))
-
-      pub pairs_room : length here ≤ length (pairs_left rest)
-      pairs_room = omega (arith, ap length pairs_passed, length-append here (pairs_left left))
+      pub pairs_room : length (pairs_for ids e) ≤ length (pairs_left rest)
+      pairs_room = omega (arith, ap length pairs_passed, length-append (pairs_for ids e) (pairs_left left))
 
       pub pairs_put :
           {t₀ w out : List ℕ} {from place : ℕ} → Writes t₀ from w out place (pairs_left rest)
-          → {u : List ℕ} {q : ℕ} → q ≡ place + length here → u ≡ sets out place here → Writes t₀ from w u q (pairs_left left)
-      pairs_put inv = writes_next inv here (pairs_left left) pairs_passed
+          → {u : List ℕ} {q : ℕ} → q ≡ place + length (pairs_for ids e) → u ≡ sets out place (pairs_for ids e) → Writes t₀ from w u q (pairs_left left)
+      pairs_put inv = writes_next inv (pairs_for ids e) (pairs_left left) pairs_passed

@@ -25,7 +25,7 @@ ghost use Rattle.mps.specs.Slots.{slot, slot_routed, slot_routes_left};
 ghost use Rattle.roll.specs.Roll.{taken_bit, enrolled, OnRoll};
 ghost use Rattle.judge.specs.Placed.{Placed};
 ghost use Rattle.apics.specs.Enabled.{enabled_in};
-ghost use Rattle.routes.specs.Pairs.{side_of, asked_by, pairs_of, named, pairs_in, count_in, paired};
+ghost use Rattle.routes.specs.Pairs.{side_of, asked_by, pairs_of, named, pairs_for, pairs_in, count_in, paired};
 
 use mps::{Refusal, Sections, layout};
 
@@ -91,6 +91,24 @@ impl Targets<'_> {
             return &e[layout::DESTINATION..layout::DESTINATION + 1];
         }
         &[]
+    }
+
+    // The pairs of one entry; answers the place behind them. It branches by itself, since a slice made for each entry costs up
+    // to half as much again.
+    fn put(&self, out: &mut [u8], at: usize, entry: &[u8]) -> usize
+        requires { (length entry.now ≡ entry_size) × (at + length (pairs_for self.now.ids.now entry.now) ≤ length out.old) }
+        ensures value { result ≡ at + length (pairs_for self.now.ids.now entry.now) }
+        ensures out_after { out.new ≡ sets out.old at (pairs_for self.now.ids.now entry.now) }
+    {
+        let to = entry[layout::DESTINATION];
+        if to == layout::EVERYONE {
+            return put_all(out, at, entry, self.ids);
+        }
+        if roll::has(self.roll, to, roll::TAKEN) {
+            put_pair(out, at, entry, to);
+            return at + layout::PAIR_SIZE;
+        }
+        at
     }
 }
 
@@ -214,6 +232,7 @@ fn of_side(t: &[u8], p: Sections, side: Side, wire: &Wire, out: &mut [u8]) -> Re
 
 // The same of one side's parts: its APICs, entries of `size` bytes, and its interrupt entries. 256 places hold any IDs of
 // which no two are the same.
+// The wire is copied: what is lent may lie in the room, for all that the back end knows, and is read anew for each entry.
 fn answer(
     targets: &[u8],
     size: usize,
@@ -232,10 +251,11 @@ fn answer(
         ids: &list[0..n],
         roll: &roll,
     };
-    if !has_room(out.len(), entries, wire, targets) {
+    let asked = *wire;
+    if !has_room(out.len(), entries, &asked, targets) {
         return Err(Refusal::RoomTooSmall);
     }
-    Ok(write(out, entries, wire, targets) / layout::PAIR_SIZE)
+    Ok(write(out, entries, &asked, targets) / layout::PAIR_SIZE)
 }
 
 // The enabled APICs, of entries of `size` bytes each: they are put on the roll, and their IDs stand in `ids` from its first
@@ -320,7 +340,7 @@ fn write(out: &mut [u8], s: &[u8], wire: &Wire, targets: Targets) -> usize
     let mut place = 0;
     for e in s.chunks_exact(layout::ENTRY_SIZE) {
         if wire.asks(e) {
-            place = put_all(out, place, e, targets.named(e));
+            place = targets.put(out, place, e);
         }
     }
     place

@@ -1,6 +1,6 @@
 -- The steps of the loops over rows, and what a chain has. Assumes nothing.
-use Prim.Native.Nat.{ℕ, zero, suc, ◌+◌, ◌-◌, ◌≤◌, ◌<◌}
-use Rattle.std.proofs.Common.{Some, None}
+use Prim.Native.Nat.{ℕ, zero, suc, ◌+◌, ◌-◌, ◌*◌, ◌/◌, ◌%◌, ◌≤◌, ◌<◌}
+use Rattle.std.specs.Prelude.{Option, Some, None}
 use mathlib.Core.Path.{◌≡◌, refl, sym, ap, ◌∙◌}
 use mathlib.Core.Bool.{true, false, cond, ◌&&◌}
 use mathlib.Core.List.{List, []}
@@ -11,7 +11,8 @@ use lib.ListN.{length, get_or, set, length-set, replicate, length-replicate}
 use lib.Seq.{get_or-set_same, get_or-set_other}
 use lib.Dec.{eqb, leb}
 use borrow.Author.Tests.{eq-eqb, ne_eqb, eqb-true, eqb-false, lt-leb, le-leb}
-use Rattle.mps.specs.Layout.{book_head, book_rows, book_row, machine_at, edition_at}
+use Rattle.mps.specs.Numbers.{le}
+use Rattle.mps.specs.Layout.{book_head, book_rows, book_row, machine_at, edition_at, body_start, body_size}
 use Rattle.mps.specs.Words.{last, keep, each}
 use Rattle.mps.specs.Book.{layout1, of_machine, latest, row_at, rows_at, editions_run}
 use Rattle.mps.specs.History.{is_edition}
@@ -20,9 +21,35 @@ use Rattle.pages.proofs.Bytes.{rows_at_more}
 use Rattle.pages.proofs.Editions.{latest_append, found_here, found_next}
 use Rattle.laws.proofs.Tests.{whether}
 use Rattle.laws.proofs.Lists.{zeros_at}
+use Rattle.laws.proofs.Small.{Bytes}
+use Rattle.numbers.proofs.Laws.{le_four, le_eight, le_below}
 use Rattle.rows.specs.declared.Row.{Row}
-use Rattle.rows.specs.Fields.{fields_at, found_row}
+use Rattle.rows.specs.Fields.{fields_at, found_row, place_of}
 use Rattle.rows.specs.Chains.{chain_count, chain_of, chain_at, last_in, Linked}
+
+-- ---- A row
+
+-- Its four numbers stand behind one another in one of eight bytes, the first one lowest.
+module _ (s : List ℕ) (b : Bytes s) (at : ℕ) {n : ℕ} (e : n ≡ le 8 s at) where
+  parts : n ≡ machine_at s at + 65536 * edition_at s at + 4294967296 * body_start 2 s at + 281474976710656 * body_size 2 s at
+  parts = omega (arith, e, le_eight s at, le_four s at, le_four s (at + 4))
+
+  machine_read : n % 65536 ≡ machine_at s at
+  machine_read = omega (arith, parts, le_below 2 s at b)
+
+  edition_read : n / 65536 % 65536 ≡ edition_at s at
+  edition_read = omega (arith, parts, le_below 2 s at b, le_below 2 s (at + 2) b)
+
+  start_read : n / 4294967296 % 65536 ≡ body_start 2 s at
+  start_read = omega (arith, parts, le_below 2 s at b, le_below 2 s (at + 2) b, le_below 2 s (at + 4) b)
+
+  size_read : n / 281474976710656 ≡ body_size 2 s at
+  size_read = omega (arith, parts, le_below 2 s at b, le_below 2 s (at + 2) b, le_below 2 s (at + 4) b)
+
+  pub row_read :
+      record { at = at; machine = n % 65536; edition = n / 65536 % 65536; start = n / 4294967296 % 65536; size = n / 281474976710656 }
+      ≡ fields_at s at
+  row_read = rw (machine_read, edition_read, start_read, size_read)
 
 -- ---- The latest edition
 
@@ -48,6 +75,25 @@ latest_none m s = refl
 
 -- ---- Where an edition stands
 
+-- What the row that is found tells of the place where it is found.
+module _ (m e : ℕ) (s : List ℕ) where
+  pub row_none : found_row m e s ≡ None → found_in layout1 m e s ≡ 0
+  unfolding found_row
+  row_none z =
+      whether (eqb (found_in layout1 m e s) 0) (λ t. eqb-true _ _ t) (λ f. let q = rw f at z in absurd (cc))
+
+  pub row_some : {r : Row} → found_row m e s ≡ Some r → (found_in layout1 m e s ≡ 0 → ⊥) × (r ≡ fields_at s (found_in layout1 m e s))
+  unfolding found_row
+  row_some z =
+      whether (eqb (found_in layout1 m e s) 0)
+      (λ t. let q = rw t at z in absurd (cc))
+      (λ f. let q = rw f at z in (eqb-false _ _ f, cc))
+
+  -- What `find` promised as a number: the place of the row, 0 where there is none.
+  pub place_found : (x : Option Row) → x ≡ found_row m e s → place_of x ≡ found_in layout1 m e s
+  place_found None q = sym (row_none (sym q))
+  place_found (Some r) q = ap (λ (x : Row). x.at) (row_some (sym q)).1
+
 -- Of the rows from k on the same is found as of all.
 module _ (m e : ℕ) (s : List ℕ) where
   abbrev pub Finds : ℕ → Type 0
@@ -62,6 +108,9 @@ module _ (m e : ℕ) (s : List ℕ) where
     unfolding found_from found_row
     finds_done h = let z : book_rows s - k ≡ 0 = omega arith in rw (← inv, z)
 
+    pub place_done : book_rows s ≤ k → 0 ≡ found_in layout1 m e s
+    place_done h = place_found m e s None (finds_done h)
+
     module _ (h : k < book_rows s) where
       left : book_rows s - k ≡ suc (book_rows s - (k + 1))
       left = omega arith
@@ -73,25 +122,14 @@ module _ (m e : ℕ) (s : List ℕ) where
             let at = row_place layout1 k in
             rw (← inv, left, found_here m e 2 s at (book_rows s - (k + 1)) (rw o at t), o, ne_eqb at 0 (λ z. omega (arith, z)))
 
+        pub place_stop : (eqb r.machine m && eqb r.edition e) ≡ true → r.at ≡ found_in layout1 m e s
+        place_stop t = place_found m e s (Some r) (finds_stop t)
+
         pub finds_next : (eqb r.machine m && eqb r.edition e) ≡ false → Finds (k + 1)
         unfolding is_edition row_at
         finds_next f =
             let at : row_place layout1 (k + 1) ≡ row_place layout1 k + book_row 2 = omega arith in
             rw at (sym (found_next m e 2 s (row_place layout1 k) (book_rows s - (k + 1)) (rw o at f)) ∙ (rw left at inv))
-
--- What the row that is found tells of the place where it is found.
-module _ (m e : ℕ) (s : List ℕ) where
-  pub row_none : found_row m e s ≡ None → found_in layout1 m e s ≡ 0
-  unfolding found_row
-  row_none z =
-      whether (eqb (found_in layout1 m e s) 0) (λ t. eqb-true _ _ t) (λ f. let q = rw f at z in absurd (cc))
-
-  pub row_some : {r : Row} → found_row m e s ≡ Some r → (found_in layout1 m e s ≡ 0 → ⊥) × (r ≡ fields_at s (found_in layout1 m e s))
-  unfolding found_row
-  row_some z =
-      whether (eqb (found_in layout1 m e s) 0)
-      (λ t. let q = rw t at z in absurd (cc))
-      (λ f. let q = rw f at z in (eqb-false _ _ f, cc))
 
 -- ---- A chain
 

@@ -1,10 +1,10 @@
 // The rows of a book, of any bytes: the latest edition of a machine, where the row of an edition stands, and whether the
 // editions of each machine run from 1 without a gap.
 //
-// Promised of any bytes, a byte past the end reading as 0: `read` answers the fields of a row, `latest` answers `latest` of the
-// rows, `find` answers the row that stands at `found_in`, and `run` whether `editions_run`, where there are at most 630 rows, a
-// bound on those of a good book. The definitions stand in mps's specs/Book.antt, in specs/Pages.antt of pages and in
-// specs/Fields.antt, and what a chain is in specs/Chains.antt.
+// Promised of any bytes, a byte past the end reading as 0: `read` answers the place and the fields of a row, `latest` answers
+// `latest` of the rows, `find` answers the row that stands at `found_in`, with that place, and `run` whether `editions_run`, where
+// there are at most 630 rows, a bound on those of a good book. The definitions stand in mps's specs/Book.antt, in specs/Pages.antt
+// of pages and in specs/Fields.antt, and what a chain is in specs/Chains.antt.
 //
 // Few rows are compared, each with all before it, which takes less time than to clear the arrays of the chains. More rows are
 // gone over once and linked in 4,096 chains, the last one first, so that the row before of a machine is found without going
@@ -15,9 +15,9 @@
 ghost use Rattle.std.specs.Prelude.{◌≤◌, ◌<◌, ◌≡◌, ◌&&◌, [], leb};
 ghost use Rattle.mps.specs.Layout.{book_rows};
 ghost use Rattle.mps.specs.Book.{latest as latest_of, layout1, rows_of, editions_run};
-ghost use Rattle.pages.specs.Pages.{row_place, rows_before, rows_most};
+ghost use Rattle.pages.specs.Pages.{row_place, rows_before, found_in, rows_most};
 ghost use Rattle.rows.specs.Chains.{chain_count, chain_of, last_in, Linked};
-ghost use Rattle.rows.specs.Fields.{fields_at, found_row};
+ghost use Rattle.rows.specs.Fields.{fields_at, found_row, place_of};
 
 use mps::layout;
 
@@ -30,26 +30,29 @@ const FEW: u16 = 14;
 // A good book has no more rows: with its row a body takes at least 52 bytes.
 const ROWS_MOST: u16 = 630;
 
-// A row: whose edition it is, where its body begins in the book, and how many bytes that has.
+// A row: where it begins, whose edition it is, where its body begins in the book, and how many bytes that has.
 #[derive(Clone, Copy)]
 pub struct Row {
+    pub at: usize,
     pub machine: u16,
     pub edition: u16,
     pub start: u16,
     pub size: u16,
 }
 
-// The row behind so many.
+// The row behind so many. One load reads all of it: a loop that looks at one number of a row pays for no other.
 #[inline]
 pub fn read(s: &[u8], k: u16) -> Row
     ensures { result ≡ fields_at s.now (row_place layout1 k) }
 {
     let at = layout::BOOK_HEAD + k as usize * layout::BOOK_ROW;
+    let all = numbers::le64(s, at);
     Row {
-        machine: numbers::le16(s, at),
-        edition: numbers::le16(s, at + layout::BOOK_EDITION),
-        start: numbers::le16(s, at + layout::BOOK_START),
-        size: numbers::le16(s, at + layout::BOOK_SIZE),
+        at,
+        machine: (all % 65536) as u16,
+        edition: ((all >> 16) % 65536) as u16,
+        start: ((all >> 32) % 65536) as u16,
+        size: (all >> 48) as u16,
     }
 }
 
@@ -76,10 +79,11 @@ fn latest_of(s: &[u8], rows: u16, machine: u16) -> u16
     found
 }
 
-// The row of an edition, where there is one.
-#[tactic(auto, using(crate::proofs::Laws::finds_first, crate::proofs::Laws::finds_done, crate::proofs::Laws::finds_stop, crate::proofs::Laws::finds_next))]
+// The row of an edition, with the place where it begins; none where there is none.
+#[tactic(auto, using(crate::proofs::Laws::finds_first, crate::proofs::Laws::finds_done, crate::proofs::Laws::finds_stop, crate::proofs::Laws::finds_next, crate::proofs::Laws::place_done, crate::proofs::Laws::place_stop))]
 pub fn find(s: &[u8], machine: u16, edition: u16) -> Option<Row>
-    ensures { result ≡ found_row machine edition s.now }
+    ensures row { result ≡ found_row machine edition s.now }
+    ensures place { place_of result ≡ found_in layout1 machine edition s.now }
 {
     for k in 0..numbers::le16(s, layout::BOOK_COUNT) {
         let row = read(s, k);

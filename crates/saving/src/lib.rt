@@ -83,12 +83,13 @@ fn grow(room: &mut [u8], found: Booked, machine: u16, edition: u16, more: usize)
     make_way(room, found);
     let start = found.size + layout::BOOK_ROW;
     let row = Row {
+        at: layout::BOOK_HEAD + found.rows * layout::BOOK_ROW,
         machine,
         edition,
         start: start as u16,
         size: more as u16,
     };
-    put_row(room, layout::BOOK_HEAD + found.rows * layout::BOOK_ROW, row);
+    put_row(room, row);
     numbers::put16(room, layout::BOOK_COUNT, found.rows as u16 + 1);
     Booked {
         rows: found.rows + 1,
@@ -96,16 +97,16 @@ fn grow(room: &mut [u8], found: Booked, machine: u16, edition: u16, more: usize)
     }
 }
 
-// A row, put at `at`.
+// A row, put where it begins.
 #[tactic(auto, using(crate::proofs::Stores::row_put))]
-fn put_row(room: &mut [u8], at: usize, row: Row)
-    requires { at ≤ book_most }
-    ensures { room.new ≡ sets room.old at (row_bytes row.machine row.edition row.start row.size) }
+fn put_row(room: &mut [u8], row: Row)
+    requires { row.at ≤ book_most }
+    ensures { room.new ≡ sets room.old row.at (row_bytes row.machine row.edition row.start row.size) }
 {
-    numbers::put16(room, at, row.machine);
-    numbers::put16(room, at + layout::BOOK_EDITION, row.edition);
-    numbers::put16(room, at + layout::BOOK_START, row.start);
-    numbers::put16(room, at + layout::BOOK_SIZE, row.size);
+    numbers::put16(room, row.at, row.machine);
+    numbers::put16(room, row.at + layout::BOOK_EDITION, row.edition);
+    numbers::put16(room, row.at + layout::BOOK_START, row.start);
+    numbers::put16(room, row.at + layout::BOOK_SIZE, row.size);
 }
 
 // The bodies move up by one row, and the offsets of the rows with them.

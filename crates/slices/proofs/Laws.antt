@@ -1,19 +1,19 @@
--- Laws of `same`, and of what the library's methods store. Assumes nothing.
-use Prim.Native.Nat.{ℕ, ◌+◌, ◌-◌, ◌≤◌, ◌<◌, min}
+-- Laws of `same`, of what the library's methods store, and of bytes moved from the last one on. Assumes nothing.
+use Prim.Native.Nat.{ℕ, suc, ◌+◌, ◌-◌, ◌≤◌, ◌<◌, min}
 use mathlib.Core.Path.{◌≡◌, refl, ap, sym, ◌∙◌}
 use mathlib.Core.Bool.{Bool, true, false, true≢false, ◌&&◌}
-use Rattle.std.specs.List.{copy_within}
 use Rattle.std.specs.Cmp.Lexicographic.{pointwise}
-use mathlib.Core.List.{List, [], ◌∷◌, ◌++◌, append_assoc}
+use mathlib.Core.List.{List, [], ◌∷◌, ◌++◌}
 use native.Mathlib.Omega.{arith}
-use lib.ListN.{length, take, drop, replicate, drop_of_length-le, length-drop, take-append-drop}
-use Rattle.std.proofs.lemmas.List.{length-take, take-take, take-replicate, length-replicate}
-use lib.Seq.{sets, length-sets, length-take-le}
+use lib.ListN.{length, set, take, drop, replicate, drop_of_length-le, length-drop, take-append-drop}
+use Rattle.std.proofs.lemmas.List.{take-replicate, length-replicate}
+use lib.Seq.{sets, length-sets, length-take-le, take-suc, take-add, get_or-drop, take-set-le}
 use lib.Dec.{eqb, leb}
 use borrow.Author.Tests.{eq-eqb, eqb-true, leb-true, leb-false}
-use Rattle.mps.specs.Words.{same, part}
+use Rattle.mps.specs.Words.{same, byte, part}
 use Rattle.laws.proofs.Tests.{and_parts, whether}
-use Rattle.laws.proofs.Stores.{sets_append, sets_past, sets_fit}
+use Rattle.laws.proofs.Parts.{drop_take, length_part}
+use Rattle.laws.proofs.Stores.{sets_append, sets_past, sets_fit, sets_swap}
 
 -- ---- same
 
@@ -70,19 +70,66 @@ fill_stored t n m v e f =
     let l : length (replicate {A = ℕ} n 0) ≡ n = length-replicate n 0 in
     rw z at (part_stored t (replicate n 0) v 0 m (omega arith) (omega arith) (f ∙ sym (take-replicate m n 0 (omega arith))))
 
--- Bytes moved up: those that have room, or none.
-module _ (t : List ℕ) (from to by end : ℕ) (e : end ≡ min to (length t - by)) where
-  pub raise_stored : {u : List ℕ} → u ≡ copy_within t from end (from + by) → from < end → u ≡ sets t (from + by) (part from to t)
-  raise_stored f h =
-      let l = length-take (to - from) (drop from t) in
-      let d = length-drop from t in
-      f ∙ append_assoc (take (from + by) t) (take (end - from) (drop from t)) (drop (from + by + (end - from)) t)
-      ∙ part_stored t (part from to t) (take (end - from) (drop from t)) (from + by) (end - from) (omega arith) (omega arith)
-      (sym (take-take (end - from) (to - from) (drop from t) (omega arith)))
+-- ---- Bytes moved up, the last one first
 
-  pub raise_none : end ≤ from → t ≡ sets t (from + by) (part from to t)
-  raise_none h =
+part_snoc : (s : List ℕ) (from i : ℕ) → from ≤ i → i < length s → part from (suc i) s ≡ part from i s ++ (byte s i ∷ [])
+part_snoc s from i h k =
+    let e : suc i - from ≡ suc (i - from) = omega arith in
+    let f : from + (i - from) ≡ i = omega arith in
+    rw e
+    (take-suc (drop from s) (i - from) 0 (omega (arith, length-drop from s))
+    ∙ rw (get_or-drop from s (i - from) 0, f))
+
+part_set : (s : List ℕ) (from to i x : ℕ) → to ≤ i → part from to (set s i x) ≡ part from to s
+part_set s from to i x h = rw (← drop_take from to (set s i x), take-set-le to s i x h) (drop_take from to s)
+
+-- The bytes before place i are left: none, or the last of them moves now. Those that would pass the end are none to move.
+module _ (s : List ℕ) (from by i : ℕ) where
+  pub raise_done : i ≤ from → sets s (from + by) (part from i s) ≡ s
+  raise_done h = let e : i - from ≡ 0 = omega arith in rw e
+
+  pub raise_next :
+      from ≤ i → i + by < length s
+      → sets s (from + by) (part from (suc i) s)
+      ≡ sets (set s (i + by) (byte s i)) (from + by) (part from i (set s (i + by) (byte s i)))
+  raise_next h k =
+      let l = length_part from i s (omega arith) in
+      let e : from + by + length (part from i s) ≡ i + by = omega (arith, l) in
+      rw (
+        part_snoc s from i h (omega arith),
+        sets_append s (from + by) (part from i s) (byte s i ∷ []),
+        e,
+        part_set s from i (i + by) (byte s i) (omega arith),
+      )
+      (sym (sets_swap s (from + by) (part from i s) (i + by) (byte s i ∷ []) (omega (arith, e))))
+
+  -- Nothing comes to stand past the end.
+  raise_more :
+      (to : ℕ) → from ≤ i → i ≤ to → i ≤ length s → length s ≤ i + by
+      → sets s (from + by) (part from to s) ≡ sets s (from + by) (part from i s)
+  raise_more to f h m k =
+      let e : to - from ≡ i - from + (to - i) = omega arith in
+      let v = part from i s in
+      let w = take (to - i) (drop (i - from) (drop from s)) in
+      let l : length s ≤ from + by + length v = omega (arith, length_part from i s m) in
+      rw (e, take-add (i - from) (to - i) (drop from s), sets_append s (from + by) v w)
+      (sets_past (sets s (from + by) v) (from + by + length v) w (rw (length-sets s (from + by) v) l))
+
+  pub raise_start :
+      (to : ℕ) → i ≤ to → i ≤ length s → length s ≤ i + by
+      → sets s (from + by) (part from i s) ≡ sets s (from + by) (part from to s)
+  raise_start to h m k =
       whether
-      (leb to from)
-      (λ q. let r = leb-true to from q in let z : to - from ≡ 0 = omega arith in rw z)
-      (λ q. let r = leb-false to from q in sym (sets_past t (from + by) (part from to t) (omega arith)))
+      (leb from i)
+      (λ e. sym (raise_more to (leb-true from i e) h m k))
+      (λ e.
+      let f = leb-false from i e in
+      sets_past s (from + by) (part from i s) (omega arith) ∙ sym (sets_past s (from + by) (part from to s) (omega arith)))
+
+  -- That many have room.
+  pub raise_room : (to : ℕ) → i ≡ min to (length s - by) → sets s (from + by) (part from i s) ≡ sets s (from + by) (part from to s)
+  raise_room to e =
+      whether
+      (leb to i)
+      (λ q. let r = leb-true to i q in let z : i ≡ to = omega arith in rw z)
+      (λ q. let r = leb-false to i q in raise_start to (omega arith) (omega arith) (omega arith))

@@ -40,12 +40,11 @@ pub fn clear(out: &mut [u8], n: usize)
 
 // Moves the bytes from one place up to another by so many places, the last one first, so that they may be moved by less than
 // their number. What would come to stand past the end is not stored.
-#[tactic(auto, using(crate::proofs::Laws::raise_stored, crate::proofs::Laws::raise_none))]
 pub fn raise(s: &mut [u8], from: usize, to: usize, by: usize)
     ensures { s.new ≡ sets s.old (from + by) (part from to s.old) }
 {
     let end = to.min(s.len().saturating_sub(by));
-    if from < end {
-        s.copy_within(from..end, from + by);
+    for i in (from..end).rev() {
+        s[i + by] = s[i];
     }
 }

@@ -1,11 +1,9 @@
--- The refusals that `?` passes on; the rest is found by the laws named on the function.
-use Rattle.dump.proofs.Ways.{passed_refused, passed_wrong}
+-- The refusals; the rest is found by the laws named on the function.
+use Rattle.dump.proofs.Ways.{passed_refused, read_wrong}
 use Rattle.dump.proofs.read.Goals as goal
 
 pub returns-in_err-found : goal.returns-in_err-found
 returns-in_err-found c = passed_refused _ c.find.ensures c.in_err-found.was c.from_residual.ensures.1
 
-pub returns-in_err-judge-in-Table : goal.returns-in_err-judge-in-Table
-returns-in_err-judge-in-Table c =
-    let w = c.in_err-judge-in-Table.was in
-    passed_wrong _ c.find.ensures _ _ _ _ _ (rw c.in-Table.is at c.in_ok-found.was) c.judge.ensures w c.from_residual-in_err-judge-in-Table.ensures.1
+pub returns-in-Err : goal.returns-in-Err
+returns-in-Err c = read_wrong _ c.find.ensures _ _ _ _ _ (rw c.in-Table.is at c.in_ok-found.was) c.judge.ensures c.in-Err.is

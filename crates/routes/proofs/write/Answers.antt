@@ -6,13 +6,13 @@ use Rattle.routes.specs.Pairs.{asked_by}
 use Rattle.routes.proofs.Writing.{pairs_done, pairs_room, pairs_put, pairs_pass}
 use Rattle.routes.proofs.write.Goals as goal
 
-pub put_all-place-requires : goal.put_all-place-requires
-put_all-place-requires c =
+pub put-place-requires : goal.put-place-requires
+put-place-requires c =
     let l = c.loop-e in
     let a = c.args in
     let s = c.in-Some.ensures.steps in
     let room = pairs_room a.targets.ids.now (asked_by a.wire.now) _ c.in-Some.e.now _ (omega (arith, s.1.1, l.invariant.0)) s.1.0 c.asks.ensures
-    c.if-asks.true _ c.named.ensures in
+    c.if-asks.true in
     (omega (arith, s.1.1, l.invariant.0), omega (arith, room, c.requires, l.invariant.1.end, l.invariant.1.room))
 
 pub loop-e-preserved-then-asks : goal.loop-e-preserved-then-asks
@@ -20,10 +20,10 @@ loop-e-preserved-then-asks c =
     let l = c.loop-e in
     let a = c.args in
     let s = c.in-Some.ensures.steps in
-    let put = c.put_all-place.ensures in (
+    let put = c.put-place.ensures in (
       omega (arith, s.0, l.invariant.0),
       pairs_put a.targets.ids.now (asked_by a.wire.now) _ c.in-Some.e.now _ (omega (arith, s.1.1, l.invariant.0)) s.1.0 c.asks.ensures
-          c.if-asks.true _ c.named.ensures l.invariant.1 put.value put.out_after,
+          c.if-asks.true l.invariant.1 put.value put.out_after,
     )
 
 pub loop-e-preserved : goal.loop-e-preserved
