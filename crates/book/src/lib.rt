@@ -112,6 +112,7 @@ pub fn body(s: &[u8], machine: u16, edition: u16) -> Result<Body, Refusal>
     ensures { result ≡ body_told layout1 s.now machine edition }
 {
     measure(s)?;
+    // Not by `ok_or`: what is returned here is one value, so that an edit of it is refused for what it means.
     let Some(row) = rows::find(s, machine, edition) else {
         return Err(Refusal::NotLatest);
     };

@@ -17,6 +17,7 @@ pub fn read(d: &[u8]) -> Result<Held, Refusal>
     match found {
         Held::Default { .. } => Ok(found),
         Held::Table { start, end, .. } => {
+            // Not by `?`: what is returned here is one value, so that an edit of it is refused for what it means.
             if let Err(refusal) = judge::judge(&d[start..end]) {
                 return Err(refusal);
             }

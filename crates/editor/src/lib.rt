@@ -26,6 +26,7 @@ pub fn edit(t: &mut [u8], place: usize, stated: &[u8], wanted: &[u8]) -> Result<
     ensures t_after { t.new ≡ edit_left t.old (edit_of place stated.now wanted.now) }
 {
     let p = judge::examine(t)?;
+    // Not by `?`: what is returned here is one value, so that an edit of it is refused for what it means.
     if let Err(refused) = test(t, p, place, stated, wanted) {
         return Err(EditRefusal::Refused(refused));
     }

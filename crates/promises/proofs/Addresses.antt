@@ -196,8 +196,8 @@ parent_answers t bus kind address a k e =
     sym (seen_answered t (parent_of t bus) kind address a (parent_listed (base_entries t) (links xs) bus o.listed (parent_linked xs bus kind address e)) k)
 
 -- "first that applies", of an accepted table, a listed bus and a kind: no, yes, the parent's answer, no, else undeclared. Of the
--- parent's answer, as ask 5 amends it there, what the other buses with that parent leave: where the bus asks it, the query on the
--- parent answers so.
+-- parent's answer, as ask 5 amends it there, what the other buses with that parent leave. The parent's answer is that of the
+-- query on it, where the bus asks it.
 pub seen_says : (t : List ℕ) (bus kind address : ℕ) → table_refusal t ≡ 0 → is_listed (base_entries t) bus ≡ true → kind ≤ space_kind_most
     → (says (extended_entries t) bus kind address ≡ Say.parent → seen t (parent_of t bus) kind address ≡ Ok (seen_by t (parent_of t bus) kind address))
     × (seen t bus kind address

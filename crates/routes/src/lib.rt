@@ -232,7 +232,7 @@ fn of_side(t: &[u8], p: Sections, side: Side, wire: &Wire, out: &mut [u8]) -> Re
 
 // The same of one side's parts: its APICs, entries of `size` bytes, and its interrupt entries. 256 places hold any IDs of
 // which no two are the same.
-// The wire is copied: what is lent may lie in the room, for all that the back end knows, and is read anew for each entry.
+// The wire is copied: what is lent may lie in the room, for all that the back end knows, and would be read anew for each entry.
 fn answer(
     targets: &[u8],
     size: usize,

@@ -4,10 +4,11 @@ use mathlib.Core.Path.{◌≡◌, refl, ap, sym, ◌∙◌}
 use mathlib.Core.Bool.{Bool, true, false, true≢false, ◌&&◌}
 use Rattle.std.specs.Cmp.Lexicographic.{pointwise}
 use mathlib.Core.List.{List, [], ◌∷◌, ◌++◌}
+use native.Mathlib.Numerals.{add-one}
 use native.Mathlib.Omega.{arith}
-use lib.ListN.{length, set, take, drop, replicate, drop_of_length-le, length-drop, take-append-drop}
+use lib.ListN.{length, get_or, set, take, drop, replicate, drop_of_length-le, length-drop, take-append-drop}
 use Rattle.std.proofs.lemmas.List.{take-replicate, length-replicate}
-use lib.Seq.{sets, length-sets, length-take-le, take-suc, take-add, get_or-drop, take-set-le}
+use lib.Seq.{drop-cons, sets, length-sets, length-take-le, take-suc, take-add, get_or-drop, take-set-le}
 use lib.Dec.{eqb, leb}
 use borrow.Author.Tests.{eq-eqb, eqb-true, leb-true, leb-false}
 use Rattle.mps.specs.Words.{same, byte, part}
@@ -47,6 +48,20 @@ same_compared [] [] r e = e
 same_compared [] (y ∷ ys) r e = e
 same_compared (x ∷ xs) [] r e = e
 same_compared (x ∷ xs) (y ∷ ys) r e = e ∙ ap (λ (q : Bool). eqb x y && q) (same_compared xs ys (pointwise eqb xs ys) refl)
+
+-- ---- Bytes stored one by one
+
+-- From byte i of w on: one more is stored, or no more has room.
+module _ (t w : List ℕ) (at i : ℕ) where
+  pub sets_next : i < length w → sets t (at + i) (drop i w) ≡ sets (set t (at + i) (get_or w i 0)) (at + (i + 1)) (drop (i + 1) w)
+  sets_next h = let e : at + suc i ≡ suc (at + i) = omega arith in rw (add-one, drop-cons w i 0 h, e)
+
+  pub sets_end : i ≡ min (length w) (length t - at) → sets t (at + i) (drop i w) ≡ t
+  sets_end e =
+      whether
+      (leb (length w) i)
+      (λ q. let r = leb-true (length w) i q in rw drop_of_length-le)
+      (λ q. let r = leb-false (length w) i q in sets_past t (at + i) (drop i w) (omega arith))
 
 -- ---- What is stored in a part of a list, by one of the library's methods
 
