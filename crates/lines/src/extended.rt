@@ -33,6 +33,7 @@ impl Put for MapLine {
 // Each of these stores one line and answers the place behind it.
 
 // An entry of another type.
+#[tactic(auto, using(crate::proofs::ExtendedLines::tree_type, crate::proofs::ExtendedLines::mod_type, crate::proofs::ExtendedLines::skip_type))]
 pub(super) fn entry(out: &mut [u8], at: usize, e: u64) -> usize
     requires { (at + 64 ≤ length out.old) × (byte_of (bytes 8 e) 0 ≡ 128 → ⊥) }
     ensures wrote { Wrote out.old at (extended_line (bytes 8 e)) out.new result }
