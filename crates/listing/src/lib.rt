@@ -221,7 +221,11 @@ pub fn full(d: &[u8], boot: u8, out: &mut [u8]) -> Result<usize, Refusal>
     ensures value { result ≡ full_listed d.now boot out.old }
     ensures out_after { out.new ≡ full_left d.now boot out.old }
 {
-    let held = dump::read(d)?;
+    let held = match dump::read(d) {
+        Ok(held) => held,
+        // Not by `?`: what is returned here is one value, so that an edit of it is refused for what it means.
+        Err(refusal) => return Err(refusal),
+    };
     match held {
         Held::Default { number, imcr } => list_made(number, boot, finding::pointer(d), imcr, out),
         Held::Table {
