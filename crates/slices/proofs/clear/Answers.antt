@@ -9,4 +9,4 @@ returns c =
     let a = c.args in
     let m = c.min-n.result in
     let l : length (take m a.out.now) ≡ m = length-take-le m a.out.now (omega arith) in
-    fill_stored a.out.now a.n m c.fill.new.self c.min-n.ensures (rw l at (c.fill.ensures.after (λ y e. e)))
+    fill_stored a.out.now a.n m c.fill.new.self (omega arith) (rw l at (c.fill.ensures.after (λ y e. e)))
