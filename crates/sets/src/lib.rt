@@ -4,8 +4,7 @@
 // there are, and `lowest` `lowest_out`, of specs/Sets.antt. What follows from these definitions, of any number of words and
 // without a word on how a set is stored, stands in proofs/Laws.antt.
 //
-// Lent, since four words by value are copied at each call. A loop goes over them as a slice: of an array that is lent the
-// toolchain knows neither how many there are nor that each is a word.
+// Lent, since four words by value are copied at each call.
 #![tactic(auto)]
 
 ghost use Rattle.std.specs.Prelude.{◌≡◌, length};
@@ -32,8 +31,8 @@ pub fn count(set: &[u64; 4]) -> usize
     ensures { result ≡ length (members set.now) }
 {
     let mut n = 0;
-    for word in set {
-        n += word.count_ones() as usize;
+    for at in 0..set.len() {
+        n += set[at].count_ones() as usize;
     }
     n
 }
